@@ -1,0 +1,12 @@
+pub mod Answers
+pub mod Stands
+pub mod Rows
+pub mod MarkLaws
+pub mod FieldLaws
+pub mod PayloadLaws
+pub mod HeaderLaws
+pub mod MessageLaws
+pub mod Only
+pub mod Demand2
+pub mod Refusals
+pub mod Demand1

@@ -1,0 +1,31 @@
+-- Demand 1, of the definitions: bad input gets a numbered refusal with its place. Each statement here is proved in proofs/Demand1.antt.
+use Prim.Native.Nat.{ℕ, _*_, _≤_, _<_}
+use mathlib.Core.Path.{_≡_}
+use mathlib.Core.Bool.{true}
+use mathlib.Core.List.{List, [], _∷_, _++_}
+use lib.ListN.{length}
+use Rattle.sim0mq.specs.Answer.{refused}
+use Rattle.sim0mq.specs.Table.{rowSize}
+use Rattle.sim0mq.specs.Header.{among}
+use Rattle.sim0mq.specs.Message.{limit, Lent, noTable, table, reading}
+use Rattle.sim0mq.specs.Allowed.{HeaderParts, headerBytes, IsHeader}
+
+-- The numbers that 01 lists for judging a message; and those for reading, with 14 only where a table is lent.
+abbrev pub judgingNumbers : List ℕ
+judgingNumbers = 1 ∷ 2 ∷ 3 ∷ 4 ∷ 5 ∷ 6 ∷ 7 ∷ 8 ∷ 9 ∷ 10 ∷ 11 ∷ 12 ∷ 13 ∷ []
+
+abbrev pub readingNumbers : Lent → List ℕ
+readingNumbers noTable = judgingNumbers
+readingNumbers (table r) = 14 ∷ judgingNumbers
+
+-- Every refusal of reading bears one of those numbers, at a place no greater than the message's length.
+abbrev pub Refusals-are-placed : Type 0
+Refusals-are-placed =
+    (lent : Lent) (s : List ℕ) (number place : ℕ) → reading lent s ≡ refused number place
+    → (among number (readingNumbers lent) ≡ true) × (place ≤ length s)
+
+-- After a good header for n fields, a table too short for n rows is refused by 14 at 0, whatever bytes follow the header.
+abbrev pub Short-table-is-refused : Type 0
+Short-table-is-refused =
+    (h : HeaderParts) (n r : ℕ) (rest : List ℕ) → IsHeader n h → length (headerBytes h ++ rest) ≤ limit → r < rowSize * n
+    → reading (table r) (headerBytes h ++ rest) ≡ refused 14 0

@@ -1,0 +1,13 @@
+pub mod Answer
+pub mod Codes
+pub mod Mark
+pub mod Field
+pub mod Payload
+pub mod Table
+pub mod Header
+pub mod Message
+pub mod Blank
+pub mod Allowed
+pub mod Examples
+pub mod Demand1
+pub mod Demand2

@@ -1,0 +1,77 @@
+-- A unit mark: a unit type and its display code (01, "Payload fields"; 000, 2.2 and Appendix A).
+use Prim.Native.Nat.{ℕ, zero, suc, _+_, _-_}
+use mathlib.Core.Bool.{Bool, cond, _&&_}
+use mathlib.Core.List.{List, [], _∷_}
+use lib.ListN.{getD}
+use lib.Dec.{leb, eqb}
+use Rattle.sim0mq.specs.Answer.{Answer, fine, refused, _>>=_, _>>_, guard, need, byte, big}
+
+-- The last display code of unit types 0 to 28.
+abbrev pub lastRow : List ℕ
+lastRow =
+    0 ∷ 8 ∷ 1 ∷ 6 ∷ 3 ∷ 21 ∷ 1 ∷ 16 ∷ 7 ∷ 8  -- 0 to 9
+    ∷ 8 ∷ 38 ∷ 1 ∷ 15 ∷ 6 ∷ 16 ∷ 21 ∷ 21 ∷ 21 ∷ 24  -- 10 to 19
+    ∷ 15 ∷ 16 ∷ 13 ∷ 4 ∷ 4 ∷ 10 ∷ 15 ∷ 3 ∷ 27  -- 20 to 28
+    ∷ []
+
+-- The unit type whose display codes the money types 101 to 106 use.
+abbrev pub perRow : List ℕ
+perRow = 5 ∷ 11 ∷ 16 ∷ 19 ∷ 25 ∷ 28 ∷ []
+
+-- What follows a unit type: a display code of unit type t; a currency code; a currency code, then a display code of unit type t.
+pub data Kind : Type 0 where
+  plain : ℕ → Kind
+  money : Kind
+  moneyPer : ℕ → Kind
+  unknown : Kind
+
+-- Unit types are 0 to 28, 100, and 101 to 106 (000, 2.2 and 2.2.9).
+unfoldable pub kindOf : ℕ → Kind
+kindOf u =
+    cond (leb u 28) (plain u)
+    (cond (leb u 99) unknown
+    (cond (eqb u 100) money
+    (cond (leb u 106) (moneyPer (getD perRow (u - 101) 0))
+    unknown)))
+
+-- Is c a currency code?
+unfoldable pub currencyTaken : ℕ → Bool
+currencyTaken c = leb 1 c && leb c 1000
+
+-- Is d a display code of unit type t?
+unfoldable pub displayTaken : ℕ → ℕ → Bool
+displayTaken t d = leb d (getD lastRow t 0)
+
+-- Each item of a mark is there (1) before it is judged (11, 12); the answer is the place after it (01, the order in a field).
+unfoldable pub currency : List ℕ → ℕ → Answer ℕ
+currency s at = do
+  need s at 2
+  guard (currencyTaken (big s at 2)) 12 at
+  fine (at + 2)
+
+unfoldable pub display : List ℕ → ℕ → ℕ → Answer ℕ
+display s t at = do
+  need s at 1
+  guard (displayTaken t (byte s at)) 12 at
+  fine (at + 1)
+
+-- What follows the unit type, of this kind, that stands at `at`.
+unfoldable pub markRest : List ℕ → ℕ → Kind → Answer ℕ
+markRest s at (plain t) = display s t (at + 1)
+markRest s at money = currency s (at + 1)
+markRest s at (moneyPer t) = do
+  p ← currency s (at + 1)
+  display s t p
+markRest s at unknown = refused 11 at
+
+unfoldable pub mark : List ℕ → ℕ → Answer ℕ
+mark s at = do
+  need s at 1
+  markRest s at (kindOf (byte s at))
+
+-- The n marks from `at` on, one after the other: the place after them.
+unfoldable pub marks : List ℕ → ℕ → ℕ → Answer ℕ
+marks s zero at = fine at
+marks s (suc n) at = do
+  p ← mark s at
+  marks s n p

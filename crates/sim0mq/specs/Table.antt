@@ -1,0 +1,20 @@
+-- The field table: five numbers for each field (01, "What reading returns").
+use Prim.Native.Nat.{ℕ}
+use mathlib.Core.List.{List, [], _∷_, _++_}
+use lib.ListN.{length, drop}
+use Rattle.sim0mq.specs.Field.{Field}
+
+-- A field's numbers: code, place of the code byte, place of the first value byte, number of value bytes, number of marks.
+unfoldable pub row : Field → List ℕ
+row f = f .code ∷ f .place ∷ f .first ∷ f .size ∷ f .marked ∷ []
+
+unfoldable pub rowSize : ℕ
+rowSize = 5
+
+unfoldable pub rows : List Field → List ℕ
+rows [] = []
+rows (f ∷ fs) = row f ++ rows fs
+
+-- A table once these numbers are stored in it: they, and after them what it held.
+unfoldable pub stored : List ℕ → List ℕ → List ℕ
+stored table numbers = numbers ++ drop (length numbers) table
