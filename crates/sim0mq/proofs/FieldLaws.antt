@@ -8,10 +8,10 @@ use native.Mathlib.Nat.{add-zero, not-suc-le-zero, le-of-suc-le-suc}
 use lib.ListN.{length, getD, length-append}
 use lib.Dec.{leb}
 use borrow.Author.Tests.{leb-true, le-leb}
-use Rattle.sim0mq.specs.Answer.{fine, _>>=_, byte, big, notNegative}
+use Rattle.sim0mq.specs.Answer.{fine, _>>=_, need, byte, big, notNegative}
 use Rattle.sim0mq.specs.Codes.{codeKnown, countsOf, markingOf, widthOf, boolean}
 use Rattle.sim0mq.specs.Mark.{marks}
-use Rattle.sim0mq.specs.Field.{count, Counted, counts, markCount, Head, headOf, headRest, head, booleans, booleansOf, values, Field, after, fieldOf, field}
+use Rattle.sim0mq.specs.Field.{count, Counted, counts, markCount, Head, headOf, headRest, head, booleans, booleansOf, Field, after, fieldOf, outline, field}
 use Rattle.sim0mq.specs.Allowed.{number, Each, none, more, IsCount, FieldParts, joined, fieldBytes, valuesAsked, columnsAsked, marksAsked, IsField}
 use Rattle.sim0mq.proofs.Answers.{needed, needed-bind, guarded, guarded-bind, bind-fine, fine-eq}
 use Rattle.sim0mq.proofs.Stands.{Stands, stands-to, stands-head, stands-tail, stands-left, stands-right, stands-nil, stands-cons, stands-join, part, stands-part, big-number}
@@ -98,24 +98,15 @@ unfolding booleansOf
 boolean-judged c n i e h = rw e h
 
 values-complete : (s : List ℕ) (first : ℕ) (f : FieldParts) → IsField f → Stands s first (f .values)
-    → values s (f .code) (valuesAsked (f .counts)) first ≡ fine (first + valuesAsked (f .counts) * widthOf (f .code))
-unfolding values
-values-complete s first f i st =
-    let c = f .code in
-    let n = valuesAsked (f .counts) * widthOf c in
-    let size : length (f .values) ≡ n = i .sized in
-    let fits = st .fits in
-    let each : (j : ℕ) → j < booleansOf c n → byte s (first + j) ≤ 1
-    =
-    λ j k.
-    let b = judged-boolean c n j k in
-    let l = b .1 in
-    let h : j < length (f .values) = omega arith in
-    rw (st .same j h) (i .isBoolean (b .0) j h) in
-    simp (le-leb (first + n) (length s) (omega arith), booleans-complete (booleansOf c n) s first each)
+    → booleans s (booleansOf (f .code) (length (f .values))) first ≡ fine tt
+values-complete s first f i st = booleans-complete (booleansOf (f .code) (length (f .values))) s first each
+  where
+    each : (j : ℕ) → j < booleansOf (f .code) (length (f .values)) → byte s (first + j) ≤ 1
+    each j k =
+        let b = judged-boolean (f .code) (length (f .values)) j k in rw (st .same j (b .1)) (i .isBoolean (b .0) j (b .1))
 
 pub field-complete : {s : List ℕ} {at : ℕ} (f : FieldParts) → IsField f → Stands s at (fieldBytes f) → field s at ≡ fine (fieldAt at f)
-unfolding field head headRest
+unfolding field outline head headRest
 field-complete {s} {at} f i st =
     let cs = joined (f .counts) in
     let ms = joined (f .marks) in
@@ -123,6 +114,9 @@ field-complete {s} {at} f i st =
     let fromCounts : Stands s (at + 1) (cs ++ (ms ++ f .values)) = stands-tail st in
     let fromMarks : Stands s (at + 1 + length cs) (ms ++ f .values) = stands-right cs (ms ++ f .values) fromCounts in
     let counted = counts-complete (f .counts) (rw (i .counted) (two-counts (f .code))) (i .isCounts) (stands-left cs (ms ++ f .values) fromCounts) in
+    let first = at + 1 + length cs + length ms in
+    let fromValues : Stands s first (f .values) = stands-right ms (f .values) fromMarks in
+    let room = fromValues .fits in
     let asked : markCount (markingOf (f .code)) (columnsAsked (f .counts)) ≡ length (f .marks)
     = marks-asked (markingOf (f .code)) (f .counts) ∙ sym (i .marked) in
     simp (
@@ -133,8 +127,9 @@ field-complete {s} {at} f i st =
       counted,
       asked,
       marks-complete (f .marks) (i .isMarks) (stands-left ms (f .values) fromMarks),
-      values-complete s (at + 1 + length cs + length ms) f i (stands-right ms (f .values) fromMarks),
       ← (i .sized),
+      le-leb (first + length (f .values)) (length s) room,
+      values-complete s first f i fromValues,
     )
 
 -- whatever is taken is a field
@@ -221,29 +216,6 @@ booleans-sound (suc n) s at q (suc i) h =
     let r = guarded-bind (leb (byte s at) 1) _ _ _ q in
     subst (λ (x : ℕ). byte s x ≤ 1) (omega arith) (booleans-sound n s (at + 1) (r .1) i (le-of-suc-le-suc h))
 
--- the n value bytes of code c, of which those of a Boolean field are 0 or 1
-record FoundValues (s : List ℕ) (c n first : ℕ) : Type 0 where
-  pub bytes : List ℕ
-  pub sized : length bytes ≡ n * widthOf c
-  pub there : Stands s first bytes
-  pub isBoolean : boolean c ≡ true → (i : ℕ) → i < length bytes → getD bytes i 0 ≤ 1
-
-values-sound : (s : List ℕ) (c n first e : ℕ) → values s c n first ≡ fine e → FoundValues s c n first
-unfolding values
-values-sound s c n first e q =
-    let size = n * widthOf c in
-    let a = needed-bind s first size _ q in
-    let b = bind-fine (booleans s (booleansOf c size) first) _ (a .1) in
-    let p = stands-part s first size (a .0) in
-    let l = p .0 in
-    record {
-      bytes = part s first size;
-      sized = l;
-      there = p .1;
-      isBoolean =
-          λ t i h. rw (← (p .1 .same i h)) (booleans-sound (booleansOf c size) s first (b .1) i (boolean-judged c size i t (omega arith)));
-    }
-
 pub record FoundField (s : List ℕ) (at : ℕ) (x : Field) : Type 0 where
   pub parts : FieldParts
   pub is : IsField parts
@@ -255,26 +227,33 @@ field-eq : {c at f f′ n n′ m m′ v : ℕ} → f ≡ f′ → n ≡ n′ →
     (record { code = c; place = at; first = f′; size = n′; marked = m′; values = v })
 field-eq {c} {at} {v = v} a b d = λ i. record { code = c; place = at; first = a i; size = b i; marked = d i; values = v }
 
--- what the judge does after the head
+-- what the judge of an outline does after the head
 abbrev Rest : List ℕ → ℕ → Field → Head → Type 0
 Rest s at x h =
-    (marks s (h .marked) (h .next) >>= (λ first. values s (h .code) (h .values) first >>= (λ next. fine (fieldOf at h first)))) ≡ fine x
+    (marks s (h .marked) (h .next) >>= (λ first. need s first (h .values * widthOf (h .code)) >>= (λ there. fine (fieldOf at h first)))) ≡ fine x
+
+-- each Boolean of a field was judged
+abbrev Judged : List ℕ → Field → Type 0
+Judged s x = (i : ℕ) → i < booleansOf (x .code) (x .size) → byte s (x .first + i) ≤ 1
 
 rest-sound : (s : List ℕ) (at c : ℕ) (x : Field) (cs : List (List ℕ)) → byte s at ≡ c → codeKnown c ≡ true → length cs ≡ countsOf c
-    → Each IsCount cs → Stands s (at + 1) (joined cs) → Rest s at x (headOf c (countedAt (at + 1) cs)) → FoundField s at x
-rest-sound s at c x cs code known counted isCounts there q =
-    let n = valuesAsked cs in
+    → Each IsCount cs → Stands s (at + 1) (joined cs) → Judged s x → Rest s at x (headOf c (countedAt (at + 1) cs)) → FoundField s at x
+rest-sound s at c x cs code known counted isCounts there judged q =
     let h = headOf c (countedAt (at + 1) cs) in
+    let size = valuesAsked cs * widthOf c in
     let m = bind-fine (marks s (h .marked) (h .next)) _ q in
-    let y = marks-sound (h .marked) s (h .next) (m .0) (there .fits) (m .1) in
-    let v = bind-fine (values s c n (m .0)) _ (m .2) in
-    let z = values-sound s c n (m .0) (v .0) (v .1) in
+    let first = m .0 in
+    let y = marks-sound (h .marked) s (h .next) first (there .fits) (m .1) in
     let e = y .ends in
     let ms = joined (y .strings) in
-    let fromMarks : Stands s (at + 1 + length (joined cs)) (ms ++ z .bytes)
-    = stands-join ms (z .bytes) (y .there) (stands-to (h .next + length ms) e (z .there)) in
+    let v = needed-bind s first size _ (m .2) in
+    let z = stands-part s first size (v .0) in
+    let vs = part s first size in
+    let fromMarks : Stands s (at + 1 + length (joined cs)) (ms ++ vs)
+    = stands-join ms vs (y .there) (stands-to (h .next + length ms) e (z .1)) in
+    let bools : Judged s (fieldOf at h first) = subst (λ (w : Field). Judged s w) (sym (fine-eq (v .1))) judged in
     record {
-      parts = record { code = c; counts = cs; marks = y .strings; values = z .bytes };
+      parts = record { code = c; counts = cs; marks = y .strings; values = vs };
       is =
           record {
             known = known;
@@ -282,21 +261,26 @@ rest-sound s at c x cs code known counted isCounts there q =
             isCounts = isCounts;
             marked = y .many ∙ marks-asked (markingOf c) cs;
             isMarks = y .are;
-            sized = z .sized;
-            isBoolean = z .isBoolean;
+            sized = z .0;
+            isBoolean = λ t i k. rw (← (z .1 .same i k)) (bools i (boolean-judged c size i t (let l = z .0 in omega arith)));
           };
-      there = stands-cons code (stands-join (joined cs) (ms ++ z .bytes) there fromMarks);
-      says = sym (fine-eq (v .2)) ∙ field-eq e (sym (z .sized)) (sym (y .many));
+      there = stands-cons code (stands-join (joined cs) (ms ++ vs) there fromMarks);
+      says = sym (fine-eq (v .1)) ∙ field-eq e (sym (z .0)) (sym (y .many));
     }
 
 pub field-sound : (s : List ℕ) (at : ℕ) (x : Field) → field s at ≡ fine x → FoundField s at x
-unfolding field head headRest
+unfolding field outline head headRest
 field-sound s at x q =
     let c = byte s at in
-    let o = bind-fine (head s at) _ q in
+    let f = bind-fine (outline s at) _ q in
+    let g = bind-fine (booleans s (booleansOf (f .0 .code) (f .0 .size)) (f .0 .first)) _ (f .2) in
+    let same : f .0 ≡ x = fine-eq (g .2) in
+    let judged : Judged s x
+    = subst (λ (y : Field). Judged s y) same (booleans-sound (booleansOf (f .0 .code) (f .0 .size)) s (f .0 .first) (g .1)) in
+    let o = bind-fine (head s at) _ (f .1 ∙ ap fine same) in
     let a = needed s at 1 _ (o .1) in
     let b = guarded (codeKnown c) _ _ _ (a .1) in
     let d = bind-fine (counts s (countsOf c) (at + 1)) _ (b .1) in
     let k = counts-sound (countsOf c) s (at + 1) (d .0) (two-counts c) (a .0) (d .1) in
     let h : o .0 ≡ headOf c (countedAt (at + 1) (k .strings)) = sym (fine-eq (d .2)) ∙ ap (λ (r : Counted). headOf c r) (k .says) in
-    rest-sound s at c x (k .strings) refl (b .0) (k .many) (k .are) (k .there) (subst (λ (y : Head). Rest s at x y) h (o .2))
+    rest-sound s at c x (k .strings) refl (b .0) (k .many) (k .are) (k .there) judged (subst (λ (y : Head). Rest s at x y) h (o .2))

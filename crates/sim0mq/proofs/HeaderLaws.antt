@@ -165,7 +165,7 @@ declared-sound s at go {v} q =
 abbrev pub headerAt : ℕ → HeaderParts → Header
 headerAt n h =
     record {
-      frames = record { place = 0; type = 9 } ∷ cutFrames 10 (headerFrames h);
+      frames = record { place = 0; code = 9 } ∷ cutFrames 10 (headerFrames h);
       fields = n;
       next = length (headerBytes h);
     }
@@ -218,7 +218,7 @@ frames-of at (f ∷ fs) = ap (λ (l : List Frame). frameOf (fieldAt at f) ∷ l)
 abbrev headerJudged : ℕ → HeaderParts → Header
 headerJudged n h =
     record {
-      frames = record { place = 0; type = 9 } ∷ framesOf 10 (headerFrames h);
+      frames = record { place = 0; code = 9 } ∷ framesOf 10 (headerFrames h);
       fields = n;
       next = endOf 10 (headerFrames h);
     }
@@ -228,7 +228,7 @@ header-eq h n v e =
     let frames = frames-of 10 (headerFrames h) in
     let next : endOf 10 (headerFrames h) ≡ length (headerBytes h)
     = end-of 10 (headerFrames h) ∙ sym (length-append frame0 (flatMap fieldBytes (headerFrames h))) in
-    λ i. record { frames = record { place = 0; type = 9 } ∷ frames i; fields = e i; next = next i }
+    λ i. record { frames = record { place = 0; code = 9 } ∷ frames i; fields = e i; next = next i }
 
 pub header-complete : {s : List ℕ} {n : ℕ} (h : HeaderParts) → IsHeader n h → Stands s 0 (headerBytes h) → header s ≡ fine (headerAt n h)
 unfolding header endOf framesOf

@@ -25,7 +25,7 @@ abbrev pub cutOf : MessageParts → Reading
 cutOf p =
     record {
       bytes = length (messageBytes p);
-      frames = record { place = 0; type = 9 } ∷ cutFrames 10 (headerFrames (p .header));
+      frames = record { place = 0; code = 9 } ∷ cutFrames 10 (headerFrames (p .header));
       fields = fieldsAt (length (headerBytes (p .header))) (p .fields);
     }
 

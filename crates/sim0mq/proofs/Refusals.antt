@@ -1,6 +1,6 @@
 -- Every refusal bears a listed number at a place in the bytes or at their end: a judge refuses an item at a place that it has reached.
 use Prim.Native.Nat.{ℕ, zero, suc, _+_, _*_, _≤_, zero-le}
-use mathlib.Core.Path.{_≡_, refl, ap, _∙_}
+use mathlib.Core.Path.{_≡_, refl, ap, _∙_, subst}
 use mathlib.Core.Bool.{Bool, true, false, cond, _&&_, or-true}
 use mathlib.Core.List.{List, [], _∷_}
 use native.Mathlib.Omega.{arith}
@@ -11,13 +11,13 @@ use borrow.Author.Tests.{leb-true}
 use Rattle.sim0mq.specs.Answer.{Answer, fine, refused, _>>=_, _>>_, guard, need, partAt, byte, big, notNegative}
 use Rattle.sim0mq.specs.Codes.{codeKnown, countsOf, widthOf, boolean}
 use Rattle.sim0mq.specs.Mark.{Kind, plain, money, moneyPer, unknown, kindOf, currencyTaken, displayTaken, currency, display, markRest, mark, marks}
-use Rattle.sim0mq.specs.Field.{count, counts, headRest, head, booleans, booleansOf, values, Field, after, field}
+use Rattle.sim0mq.specs.Field.{count, counts, headRest, head, booleans, booleansOf, Field, after, outline, field}
 use Rattle.sim0mq.specs.Payload.{payloadFrom, payload}
 use Rattle.sim0mq.specs.Header.{magicBytes, idCodes, numberCodes, statusCodes, countCodes, among, statusTaken, fieldsTaken, literal, digit, magic, frame, status, declared, Header, header}
 use Rattle.sim0mq.specs.Message.{Lent, noTable, table, enough, messageRest, message}
 use Rattle.sim0mq.specs.Demand1.{judgingNumbers, readingNumbers}
 use Rattle.sim0mq.specs.Allowed.{headerBytes}
-use Rattle.sim0mq.proofs.Answers.{needed, guarded}
+use Rattle.sim0mq.proofs.Answers.{needed, needed-bind, guarded, bind-fine, fine-eq}
 use Rattle.sim0mq.proofs.FieldLaws.{after-at, field-sound}
 use Rattle.sim0mq.proofs.HeaderLaws.{digit-sound, header-sound}
 
@@ -123,21 +123,31 @@ module _ (s : List ℕ) where
   booleans-placed (suc n) at h =
       guard-bind-placed (leb (byte s at) 1) _ _ _ refl (omega arith) (λ t. booleans-placed n (at + 1) (omega arith))
 
-  values-placed : (c n first : ℕ) → Placed (values s c n first)
-  unfolding values
-  values-placed c n first =
-      need-bind-placed first (n * widthOf c) _
-      (λ h.
-      then-placed (booleans s (booleansOf c (n * widthOf c)) first) _
-      (booleans-placed (booleansOf c (n * widthOf c)) first (omega (arith, some-booleans c (n * widthOf c)))) (λ pass e. tt))
-
-  field-placed : (at : ℕ) → Placed (field s at)
-  unfolding field
-  field-placed at =
+  outline-placed : (at : ℕ) → Placed (outline s at)
+  unfolding outline
+  outline-placed at =
       then-placed (head s at) _ (head-placed at)
       (λ h e.
       then-placed (marks s (h .marked) (h .next)) _ (marks-placed (h .marked) (h .next))
-      (λ first e. then-placed (values s (h .code) (h .values) first) _ (values-placed (h .code) (h .values) first) (λ next e. tt)))
+      (λ first e. need-bind-placed first (h .values * widthOf (h .code)) _ (λ there. tt)))
+
+  -- an outline that was taken lies in s
+  outline-within : (at : ℕ) (x : Field) → outline s at ≡ fine x → after x ≤ length s
+  unfolding outline after
+  outline-within at x q =
+      let a = bind-fine (head s at) _ q in
+      let b = bind-fine (marks s (a .0 .marked) (a .0 .next)) _ (a .2) in
+      let n = needed-bind s (b .0) (a .0 .values * widthOf (a .0 .code)) _ (b .2) in
+      subst (λ (y : Field). y .first + y .size ≤ length s) (fine-eq (n .1)) (n .0)
+
+  field-placed : (at : ℕ) → Placed (field s at)
+  unfolding field after
+  field-placed at =
+      then-placed (outline s at) _ (outline-placed at)
+      (λ f e.
+      let within = outline-within at f e in
+      then-placed (booleans s (booleansOf (f .code) (f .size)) (f .first)) _
+      (booleans-placed (booleansOf (f .code) (f .size)) (f .first) (omega (arith, some-booleans (f .code) (f .size)))) (λ pass e. tt))
 
   -- a field that was taken lies in s
   field-within : (at : ℕ) (x : Field) → field s at ≡ fine x → (x .first ≤ length s) × (after x ≤ length s)

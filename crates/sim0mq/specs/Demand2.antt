@@ -39,12 +39,12 @@ cutRows at (f ∷ fs) =
 -- The frames that begin at `at`, read off their parts.
 unfoldable pub cutFrames : ℕ → List FieldParts → List Frame
 cutFrames at [] = []
-cutFrames at (f ∷ fs) = record { place = at; type = f .code } ∷ cutFrames (at + length (fieldBytes f)) fs
+cutFrames at (f ∷ fs) = record { place = at; code = f .code } ∷ cutFrames (at + length (fieldBytes f)) fs
 
 -- What reading finds in a message is the message's own cut: its length, its frames, its rows, as many fields as its parts have.
 pub record IsCut (p : MessageParts) (m : Reading) : Type 0 where
   pub bytes : m .bytes ≡ length (messageBytes p)
-  pub frames : m .frames ≡ record { place = 0; type = 9 } ∷ cutFrames 10 (headerFrames (p .header))
+  pub frames : m .frames ≡ record { place = 0; code = 9 } ∷ cutFrames 10 (headerFrames (p .header))
   pub rows : rows (m .fields) ≡ cutRows (length (headerBytes (p .header))) (p .fields)
   pub fields : length (m .fields) ≡ length (p .fields)
 

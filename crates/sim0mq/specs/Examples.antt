@@ -6,7 +6,7 @@ use lib.ListN.{take, set}
 use Rattle.sim0mq.specs.Answer.{Answer, fine, refused, big, notNegative}
 use Rattle.sim0mq.specs.Codes.{codeKnown, countsOf, markingOf, widthOf, boolean}
 use Rattle.sim0mq.specs.Mark.{kindOf, currencyTaken, displayTaken, currency, display, markRest, mark, marks}
-use Rattle.sim0mq.specs.Field.{count, counts, markCount, headRest, head, booleans, booleansOf, values, after, field}
+use Rattle.sim0mq.specs.Field.{count, counts, markCount, headRest, head, booleans, booleansOf, after, outline, field}
 use Rattle.sim0mq.specs.Payload.{payloadFrom, payload, moved, steps}
 use Rattle.sim0mq.specs.Table.{row, rowSize, rows}
 use Rattle.sim0mq.specs.Header.{among, statusTaken, fieldsTaken, literal, digit, magic, frame, status, declared, header}
@@ -86,6 +86,6 @@ pub examples-hold : map (λ (e : Example). outcome (e .deed)) starred ≡ map (�
 unfolding
     starred front sample outcome blanking blanked zeroed reading message messageRest enough limit stepsOf
     header declared status frame magic digit literal among statusTaken fieldsTaken row rows rowSize payload payloadFrom moved steps
-    field after values booleans booleansOf head headRest counts count markCount mark marks markRest display currency kindOf currencyTaken
+    field outline after booleans booleansOf head headRest counts count markCount mark marks markRest display currency kindOf currencyTaken
     displayTaken codeKnown countsOf markingOf widthOf boolean big notNegative
 examples-hold = refl

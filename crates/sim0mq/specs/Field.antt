@@ -70,13 +70,6 @@ booleans s (suc n) at = do
 unfoldable pub booleansOf : ℕ → ℕ → ℕ
 booleansOf c n = cond (boolean c) n 0
 
--- The n values of code c from `first` on: all bytes there (1), then Booleans in order (10). The answer is the place after them.
-unfoldable pub values : List ℕ → ℕ → ℕ → ℕ → Answer ℕ
-values s c n first = do
-  there ← need s first (n * widthOf c)
-  pass ← booleans s (booleansOf c (n * widthOf c)) first
-  fine (first + n * widthOf c)
-
 -- What is known of a field: its code, the place of its code byte, the place of its first value byte (or after its counts and marks),
 -- the number of its value bytes, of its marks, and of its values.
 pub record Field : Type 0 where
@@ -102,10 +95,17 @@ fieldOf at h first =
       values = h .values;
     }
 
--- The field at `at` (01, the order in a field).
-unfoldable pub field : List ℕ → ℕ → Answer Field
-field s at = do
+-- The outline of the field at `at`: code and counts, each mark in turn, and all value bytes there (1); no value byte is judged.
+unfoldable pub outline : List ℕ → ℕ → Answer Field
+outline s at = do
   h ← head s at
   first ← marks s (h .marked) (h .next)
-  next ← values s (h .code) (h .values) first
+  there ← need s first (h .values * widthOf (h .code))
   fine (fieldOf at h first)
+
+-- The field at `at`: its outline, then its Booleans in order (01, the order in a field).
+unfoldable pub field : List ℕ → ℕ → Answer Field
+field s at = do
+  f ← outline s at
+  pass ← booleans s (booleansOf (f .code) (f .size)) (f .first)
+  fine f

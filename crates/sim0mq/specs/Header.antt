@@ -85,10 +85,10 @@ declared s at = do
 -- A frame's place, which is that of its first byte, and its type code.
 pub record Frame : Type 0 where
   pub place : ℕ
-  pub type : ℕ
+  pub code : ℕ
 
 abbrev pub frameOf : Field → Frame
-frameOf f = record { place = f .place; type = f .code }
+frameOf f = record { place = f .place; code = f .code }
 
 -- The frames, the declared number of fields, and the place after the header.
 pub record Header : Type 0 where
@@ -100,7 +100,7 @@ abbrev pub headerOf : List ℕ → (run sender receiver kind number status count
 headerOf s run sender receiver kind number status count =
     record {
       frames =
-          record { place = 0; type = 9 }
+          record { place = 0; code = 9 }
           ∷ frameOf run
           ∷ frameOf sender
           ∷ frameOf receiver
