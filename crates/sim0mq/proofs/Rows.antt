@@ -1,37 +1,37 @@
 -- A rule of a row of numbers holds at each entry, since a test computed over the whole row passes.
-use Prim.Native.Nat.{ℕ, zero, suc, _≤_, zero-le}
+use Prim.Native.Nat.{ℕ, zero, suc, _≤_, _<_}
+use native.Mathlib.Nat.{not-suc-le-zero, le-of-suc-le-suc}
 use mathlib.Core.Path.{_≡_, refl}
 use mathlib.Core.Bool.{Bool, true, false, _&&_, _||_, false≢true}
 use mathlib.Core.List.{List, [], _∷_}
-use lib.ListN.{getD}
+use lib.ListN.{length, getD}
 use lib.Dec.{leb, eqb}
 use borrow.Author.Tests.{leb-true, eqb-true}
 use Rattle.sim0mq.specs.Codes.{countRow, countsOf, widthOf}
 use Rattle.sim0mq.specs.Header.{statusCodes, countCodes, among}
 use Rattle.sim0mq.proofs.Answers.{and-true}
 
--- no entry is above b
-atMost : ℕ → List ℕ → Bool
-atMost b [] = true
-atMost b (x ∷ xs) = leb x b && atMost b xs
-
-at-most : (b : ℕ) (row : List ℕ) (k : ℕ) → atMost b row ≡ true → getD row k 0 ≤ b
-unfolding atMost
-at-most b [] k e = zero-le
-at-most b (x ∷ xs) zero e = leb-true x b (and-true (leb x b) (atMost b xs) e .0)
-at-most b (x ∷ xs) (suc k) e = at-most b xs k (and-true (leb x b) (atMost b xs) e .1)
-
--- no code has more than two counts
-pub two-counts : (c : ℕ) → countsOf c ≤ 2
-unfolding countsOf atMost
-two-counts c = at-most 2 countRow c refl
-
--- a test that each number of a row passes is passed by any number among them
-allPass : (ℕ → Bool) → List ℕ → Bool
+-- each number of a row passes a test
+unfoldable pub allPass : (ℕ → Bool) → List ℕ → Bool
 allPass test [] = true
 allPass test (x ∷ xs) = test x && allPass test xs
 
-pass-among : (test : ℕ → Bool) (row : List ℕ) (k : ℕ) → allPass test row ≡ true → among k row ≡ true → test k ≡ true
+-- so does the number at any place of the row
+pub pass-at : (test : ℕ → Bool) (row : List ℕ) (k : ℕ) → allPass test row ≡ true → k < length row → test (getD row k 0) ≡ true
+unfolding allPass
+pass-at test [] k a h = absurd (not-suc-le-zero h)
+pass-at test (x ∷ xs) zero a h = and-true (test x) (allPass test xs) a .0
+pass-at test (x ∷ xs) (suc k) a h = pass-at test xs k (and-true (test x) (allPass test xs) a .1) (le-of-suc-le-suc h)
+
+-- and past the row's end 0, if 0 passes
+pub pass-any : (test : ℕ → Bool) (row : List ℕ) (k : ℕ) → test 0 ≡ true → allPass test row ≡ true → test (getD row k 0) ≡ true
+unfolding allPass
+pass-any test [] k z a = z
+pass-any test (x ∷ xs) zero z a = and-true (test x) (allPass test xs) a .0
+pass-any test (x ∷ xs) (suc k) z a = pass-any test xs k z (and-true (test x) (allPass test xs) a .1)
+
+-- and any number among them
+pub pass-among : (test : ℕ → Bool) (row : List ℕ) (k : ℕ) → allPass test row ≡ true → among k row ≡ true → test k ≡ true
 unfolding allPass among
 pass-among test [] k a e = absurd (false≢true e)
 pass-among test (x ∷ xs) k a e =
@@ -40,6 +40,11 @@ pass-among test (x ∷ xs) k a e =
     go : (b : Bool) → eqb k x ≡ b → (b || among k xs) ≡ true → test x ≡ true → (among k xs ≡ true → test k ≡ true) → test k ≡ true
     go true q r here later = rw (eqb-true k x q) here
     go false q r here later = later r
+
+-- no code has more than two counts
+pub two-counts : (c : ℕ) → countsOf c ≤ 2
+unfolding countsOf allPass
+two-counts c = leb-true _ 2 (pass-any (λ (n : ℕ). leb n 2) countRow c refl refl)
 
 -- the type codes of frames 6 and 7 have no count, and a value of at least one byte
 scalar : ℕ → Bool

@@ -1,4 +1,5 @@
 pub mod Answer
+pub mod Views
 pub mod Codes
 pub mod Mark
 pub mod Field

@@ -1,0 +1,267 @@
+-- How the field judges answer, case by case, in the words of the code's tests.
+use Prim.Native.Nat.{ℕ, zero, suc, _+_, _-_, _*_, _/_, _≤_, _<_}
+use mathlib.Core.Path.{_≡_, refl, ap, sym, _∙_, subst}
+use mathlib.Core.Bool.{Bool, true, false}
+use mathlib.Core.List.{List}
+use native.Mathlib.Omega.{arith}
+use native.Mathlib.Numerals.{add-one}
+use native.Mathlib.Nat.{add-zero, mul-one, mul-zero, not-suc-le-zero, le-div-iff-mul-le, mul-le-mul, lt-of-le-of-lt}
+use lib.ListN.{length, getD, List·getD-eq-default}
+use lib.Dec.{leb, lit<}
+use borrow.Author.Tests.{leb-true, leb-false, le-leb, lt-leb, lt-ltb, le-ltb}
+use Rattle.sim0mq.specs.Answer.{Answer, fine, refused, _>>=_, need, byte, big, notNegative}
+use Rattle.sim0mq.specs.Codes.{codeKnown, countRow, markRow, widthRow, countsOf, markingOf, widthOf, boolean}
+use Rattle.sim0mq.specs.Mark.{marks}
+use Rattle.sim0mq.specs.Field.{count, counts, markCount, Head, headOf, headRest, head, booleans, booleansOf, outline}
+use Rattle.sim0mq.specs.declared.Judged.{Judged}
+use Rattle.sim0mq.specs.declared.Judged.the-variants.{Accepted, Refused}
+use Rattle.sim0mq.specs.Views.{judged}
+use Rattle.payload.specs.Items.{Below, numberAt, sizeAt, booleansEnd, valuesEnd}
+use Rattle.sim0mq.proofs.Answers.{not-fine, fine-eq, needed-bind}
+use Rattle.sim0mq.proofs.Rows.{allPass, pass-at}
+
+-- marks and sizes
+pub no-marks : (m columns : ℕ) → m ≡ 0 → 0 ≡ markCount m columns
+unfolding markCount
+no-marks m columns e = simp e
+
+pub one-mark : (m columns : ℕ) → m ≡ 1 → 1 ≡ markCount m columns
+unfolding markCount
+one-mark m columns e = simp e
+
+pub column-marks : (m columns : ℕ) → (m ≡ 0 → ⊥) → (m ≡ 1 → ⊥) → columns ≡ markCount m columns
+unfolding markCount
+column-marks zero columns a b = absurd (a refl)
+column-marks (suc zero) columns a b = absurd (b refl)
+column-marks (suc (suc m)) columns a b = refl
+
+pub product-fits : (r c : ℕ) → r < 4294967296 → c < 4294967296 → r * c < 18446744073709551616
+product-fits r c h k = lt-of-le-of-lt (product-le r c 4294967295 (omega arith) (omega arith)) (lit< tt)
+  where
+    product-le : (r c m : ℕ) → r ≤ m → c ≤ m → r * c ≤ m * m
+    product-le r c m h k = mul-le-mul h k
+
+-- n values of w bytes fit into the room exactly when n is at most the room divided by w
+pub room-test : (n w room d : ℕ) → w ≡ d → 0 < d → leb n (room / d) ≡ leb (n * w) room
+room-test n w room d e h = rw e (go (leb n (room / d)) refl)
+  where
+    over : (b : Bool) → leb (n * d) room ≡ b → leb n (room / d) ≡ false → room < n * d
+    over true q e = absurd (let a = le-div-iff-mul-le h .1 (leb-true _ _ q) in let b = leb-false n (room / d) e in omega arith)
+    over false q e = leb-false _ _ q
+
+    go : (b : Bool) → leb n (room / d) ≡ b → leb n (room / d) ≡ leb (n * d) room
+    go true e = e ∙ sym (le-leb (n * d) room (le-div-iff-mul-le h .0 (leb-true _ _ e)))
+    go false e = e ∙ sym (lt-leb (n * d) room (over (leb (n * d) room) refl e))
+
+pub room-test-one : (n w room : ℕ) → w ≡ 1 → leb n room ≡ leb (n * w) room
+room-test-one n w room e = rw (e, mul-one n)
+
+-- Booleans from a place on: none left, one more, or a refusal
+module _ (s : List ℕ) where
+  pub booleans-done : (n at : ℕ) → n ≡ 0 → booleansEnd s n at ≡ fine at
+  unfolding booleansEnd booleans
+  booleans-done n at e = simp (e, add-zero)
+
+  pub booleans-more : (n m at : ℕ) → n ≡ m + 1 → byte s at ≤ 1 → booleansEnd s n at ≡ booleansEnd s m (at + 1)
+  unfolding booleansEnd booleans
+  booleans-more n m at e h =
+      let ends : at + suc m ≡ at + 1 + m = omega arith in simp (e, add-one m, le-leb (byte s at) 1 h, ends)
+
+  pub booleans-stop : (n at : ℕ) → 0 < n → 1 < byte s at → booleansEnd s n at ≡ refused 10 at
+  unfolding booleansEnd booleans
+  booleans-stop zero at h k = absurd (not-suc-le-zero h)
+  booleans-stop (suc n) at h k = simp (lt-leb (byte s at) 1 k)
+
+-- numbers
+module _ (s : List ℕ) (at n : ℕ) where
+  pub number-there : at + n ≤ length s → n ≤ 8 → numberAt s at n ≡ big s at n
+  unfolding numberAt
+  number-there h k = simp (le-leb (at + n) (length s) h, le-leb n 8 k)
+
+  pub number-short : length s < at + n → 0 ≡ numberAt s at n
+  unfolding numberAt
+  number-short h = simp (lt-leb (at + n) (length s) h)
+
+  pub number-long : at + n ≤ length s → 8 < n → 0 ≡ numberAt s at n
+  unfolding numberAt
+  number-long h k = simp (le-leb (at + n) (length s) h, lt-leb n 8 k)
+
+  pub number-more : big s at n * 256 + byte s (at + n) ≡ big s at (n + 1)
+  unfolding big
+  number-more = simp (add-one n)
+
+-- counts
+module _ (s : List ℕ) (at : ℕ) where
+  pub count-short : length s < at + 4 → count s at ≡ refused 1 (length s)
+  unfolding count
+  count-short h = simp (lt-leb (at + 4) (length s) h)
+
+  pub count-negative : at + 4 ≤ length s → 128 ≤ byte s at → count s at ≡ refused 5 at
+  unfolding count notNegative
+  count-negative h k = simp (le-leb (at + 4) (length s) h, le-ltb (byte s at) 128 k)
+
+  pub count-fine : (n : ℕ) → at + 4 ≤ length s → byte s at < 128 → n ≡ numberAt s at 4 → count s at ≡ fine n
+  unfolding count notNegative
+  count-fine n h k e =
+      let b : n ≡ big s at 4 = e ∙ number-there s at 4 h (omega arith) in
+      simp (le-leb (at + 4) (length s) h, lt-ltb (byte s at) 128 k) (ap fine (sym b))
+
+-- every width is at least one byte
+pub width-positive : (c : ℕ) → c ≤ 32 → 1 ≤ getD widthRow c 0
+unfolding allPass
+width-positive c h = leb-true 1 _ (pass-at (λ (w : ℕ). leb 1 w) widthRow c refl (omega arith))
+
+-- sizes of values
+module _ (s : List ℕ) (c n first : ℕ) where
+  size-over : length s < first + n * widthOf c → sizeAt s c n first ≡ refused 1 (length s)
+  unfolding sizeAt
+  size-over h = simp (lt-leb (first + n * widthOf c) (length s) h)
+
+  size-within : first + n * widthOf c ≤ length s → sizeAt s c n first ≡ fine (n * widthOf c)
+  unfolding sizeAt
+  size-within h = simp (le-leb (first + n * widthOf c) (length s) h)
+
+  pub size-past : length s < first → sizeAt s c n first ≡ refused 1 (length s)
+  size-past h = size-over (omega arith)
+
+  -- a code that is none has no width
+  pub size-of-none : 32 < c → first ≤ length s → sizeAt s c n first ≡ fine 0
+  unfolding widthOf
+  size-of-none h k =
+      let w : getD widthRow c 0 ≡ 0 = List·getD-eq-default widthRow 0 {n = c} (omega arith) in
+      let z : n * getD widthRow c 0 ≡ 0 = rw w (mul-zero n) in
+      size-within (omega arith) ∙ ap fine z
+
+  -- the test of the room left
+  pub size-fits : first ≤ length s → leb (n * getD widthRow c 0) (length s - first) ≡ true → sizeAt s c n first ≡ fine (n * getD widthRow c 0)
+  unfolding widthOf
+  size-fits k e = let h : n * getD widthRow c 0 ≤ length s - first = leb-true _ _ e in size-within (omega arith)
+
+  pub size-short : first ≤ length s → leb (n * getD widthRow c 0) (length s - first) ≡ false → sizeAt s c n first ≡ refused 1 (length s)
+  unfolding widthOf
+  size-short k e = let h : length s - first < n * getD widthRow c 0 = leb-false _ _ e in size-over (omega arith)
+
+-- values
+module _ (s : List ℕ) (c n first : ℕ) where
+  pub values-stop : (k p : ℕ) → sizeAt s c n first ≡ refused k p → valuesEnd s c n first ≡ refused k p
+  unfolding valuesEnd
+  values-stop k p e = simp e
+
+  pub values-boolean : (z : ℕ) → sizeAt s c n first ≡ fine z → boolean c ≡ true → booleansEnd s z first ≡ valuesEnd s c n first
+  unfolding valuesEnd booleansOf booleansEnd
+  values-boolean z e b = simp (e, b) (same (booleans s z first))
+    where
+      same : (a : Answer (Unit {0})) → (a >>= (λ pass. fine (first + z))) ≡ ((a >>= (λ pass. fine (first + z))) >>= (λ p. fine (first + z)))
+      same (fine u) = refl
+      same (refused k p) = refl
+
+  pub values-other : (z : ℕ) → sizeAt s c n first ≡ fine z → boolean c ≡ false → fine (first + z) ≡ valuesEnd s c n first
+  unfolding valuesEnd booleansOf booleansEnd booleans
+  values-other z e b = simp (e, b)
+
+  -- the size is known to lie in s
+  pub size-goes : (z : ℕ) → sizeAt s c n first ≡ fine z → (z ≡ n * widthOf c) × (first + z ≤ length s)
+  unfolding sizeAt
+  size-goes z e =
+      let a = needed-bind s first (n * widthOf c) _ e in
+      let q : n * widthOf c ≡ z = fine-eq (a .1) in
+      (sym q, subst (λ (x : ℕ). first + x ≤ length s) q (a .0))
+
+-- a refusal has no number to be below
+pub below-refused : {k p : ℕ} (m : ℕ) (r : Judged) → judged r ≡ refused k p → Below m r
+below-refused m (Accepted n) e = absurd (not-fine (sym e))
+below-refused m (Refused r) e = tt
+
+-- heads
+module _ (s : List ℕ) where
+  pub head-short : (at : ℕ) → length s ≤ at → head s at ≡ refused 1 (length s)
+  unfolding head
+  head-short at h = simp (lt-leb (at + 1) (length s) (omega arith))
+
+-- the head of a field of code c
+module _ (s : List ℕ) (at c : ℕ) (there : at < length s) (is : c ≡ byte s at) where
+  head-of : head s at ≡ headRest s at c
+  unfolding head
+  head-of = simp (le-leb (at + 1) (length s) (omega arith), is)
+
+  pub head-over : 32 < c → head s at ≡ refused 9 at
+  unfolding headRest codeKnown
+  head-over k = head-of ∙ simp (lt-leb c 32 k)
+
+  head-counts : c ≤ 32 → head s at ≡ (counts s (getD countRow c 0) (at + 1) >>= (λ r. fine (headOf c r)))
+  unfolding headRest codeKnown countsOf
+  head-counts l = head-of ∙ simp (le-leb c 32 l)
+
+  -- and whose row of counts says k
+  module _ (known : c ≤ 32) (k : ℕ) (asks : k ≡ getD countRow c 0) where
+    head-asks : head s at ≡ (counts s k (at + 1) >>= (λ r. fine (headOf c r)))
+    head-asks = rw asks (head-counts known)
+
+    pub head-none : (m : ℕ) → k ≡ 0 → m ≡ markCount (getD markRow c 0) 1
+        → head s at ≡ fine (record { code = c; values = 1; marked = m; next = at + 1 })
+    unfolding counts markingOf
+    head-none m e q = head-asks ∙ simp (e, q)
+
+    pub head-stop : (n p : ℕ) → (k ≡ 0 → ⊥) → count s (at + 1) ≡ refused n p → head s at ≡ refused n p
+    unfolding counts
+    head-stop n p h q = head-asks ∙ go k h
+      where
+        go : (k : ℕ) → (k ≡ 0 → ⊥) → (counts s k (at + 1) >>= (λ r. fine (headOf c r))) ≡ refused n p
+        go zero h = absurd (h refl)
+        go (suc zero) h = simp q
+        go (suc (suc k)) h = simp q
+
+    pub head-one : (n m : ℕ) → k ≡ 1 → count s (at + 1) ≡ fine n → m ≡ markCount (getD markRow c 0) 1
+        → head s at ≡ fine (record { code = c; values = n; marked = m; next = at + 1 + 4 })
+    unfolding counts markingOf
+    head-one n m e a q = head-asks ∙ simp (e, a, q)
+
+    pub head-second : (r n p : ℕ) → (k ≡ 0 → ⊥) → (k ≡ 1 → ⊥) → count s (at + 1) ≡ fine r → count s (at + 1 + 4) ≡ refused n p
+        → head s at ≡ refused n p
+    unfolding counts
+    head-second r n p x y a b = head-asks ∙ go k x y
+      where
+        go : (k : ℕ) → (k ≡ 0 → ⊥) → (k ≡ 1 → ⊥) → (counts s k (at + 1) >>= (λ r. fine (headOf c r))) ≡ refused n p
+        go zero x y = absurd (x refl)
+        go (suc zero) x y = absurd (y refl)
+        go (suc (suc k)) x y = simp (a, b)
+
+    pub head-two : (r l v m : ℕ) → (k ≡ 0 → ⊥) → (k ≡ 1 → ⊥) → count s (at + 1) ≡ fine r → count s (at + 1 + 4) ≡ fine l → v ≡ r * l
+        → m ≡ markCount (getD markRow c 0) l → head s at ≡ fine (record { code = c; values = v; marked = m; next = at + 1 + 8 })
+    unfolding counts markingOf
+    head-two r l v m x y a b e q = head-asks ∙ go k x y
+      where
+        go : (k : ℕ) → (k ≡ 0 → ⊥) → (k ≡ 1 → ⊥)
+            → (counts s k (at + 1) >>= (λ r. fine (headOf c r))) ≡ fine (record { code = c; values = v; marked = m; next = at + 1 + 8 })
+        go zero x y = absurd (x refl)
+        go (suc zero) x y = absurd (y refl)
+        go (suc (suc k)) x y = simp (a, b, e, q)
+
+-- outlines
+after-need : {A B : Type 0} (a : Answer (Unit {0})) (x : A) (y : B) {k p : ℕ} → (a >>= (λ there. fine x)) ≡ refused k p
+    → (a >>= (λ there. fine y)) ≡ refused k p
+after-need (fine u) x y e = absurd (not-fine (sym e))
+after-need (refused k p) x y e = cc
+
+module _ (s : List ℕ) (at : ℕ) where
+  pub outline-head-stop : (k p : ℕ) → head s at ≡ refused k p → outline s at ≡ refused k p
+  unfolding outline
+  outline-head-stop k p a = simp a
+
+  module _ (h : Head) (a : head s at ≡ fine h) where
+    pub outline-marks-stop : (k p : ℕ) → marks s (h .marked) (h .next) ≡ refused k p → outline s at ≡ refused k p
+    unfolding outline
+    outline-marks-stop k p b = simp (a, b)
+
+    module _ (first : ℕ) (b : marks s (h .marked) (h .next) ≡ fine first) where
+      pub outline-size-stop : (k p : ℕ) → sizeAt s (h .code) (h .values) first ≡ refused k p → outline s at ≡ refused k p
+      unfolding outline sizeAt
+      outline-size-stop k p d = simp (a, b) (after-need (need s first (h .values * widthOf (h .code))) _ _ d)
+
+      pub outline-fine : (z : ℕ) → sizeAt s (h .code) (h .values) first ≡ fine z
+          → outline s at ≡ fine (record { code = h .code; place = at; first = first; size = z; marked = h .marked; values = h .values })
+      unfolding outline
+      outline-fine z d =
+          let g = size-goes s (h .code) (h .values) first z d in
+          let l = g .1 in
+          simp (a, b, ← (g .0), le-leb (first + z) (length s) l)

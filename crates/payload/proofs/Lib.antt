@@ -1,0 +1,3 @@
+pub mod MarkCases
+pub mod FieldCases
+pub mod PayloadCases

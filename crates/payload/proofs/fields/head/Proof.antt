@@ -1,0 +1,139 @@
+-- Each return is a case of the definition, told by the code's row of counts and by what each count says.
+use native.Mathlib.Omega.{arith}
+use borrow.Author.Needs.{needs}
+use mathlib.Core.Path.{refl, sym, ap, _∙_, subst}
+use Rattle.sim0mq.specs.declared.Judged.{Judged}
+use Rattle.sim0mq.specs.Views.{judged}
+use Rattle.payload.specs.Items.{Below}
+use Rattle.payload.proofs.FieldCases.{head-short, head-over, head-none, head-stop, head-one, head-second, head-two}
+use Rattle.payload.proofs.fields.head.Statement.{statement}
+use Rattle.payload.proofs.fields.head.Tie as tie
+
+returns : tie.Need-returns
+returns c = sym (head-short _ _ (omega arith))
+
+shared-slice-read-wide : tie.Need-shared-slice-read-wide
+shared-slice-read-wide c = search needs
+
+wide-requires : tie.Need-wide-requires
+wide-requires c κs = search needs
+
+returns-2 : tie.Need-returns-2
+returns-2 c = sym (head-over _ _ (c .before .wide .result) (omega arith) (c .before .wide .ensures .0) (omega arith))
+
+add-p : tie.Need-add-p
+add-p c = search needs
+
+mul-k : tie.Need-mul-k
+mul-k c = search needs
+
+array-read-k : tie.Need-array-read-k
+array-read-k c = search needs
+
+mul-m : tie.Need-mul-m
+mul-m c = search needs
+
+array-read-m : tie.Need-array-read-m
+array-read-m c = search needs
+
+mark-count-requires : tie.Need-mark-count-requires
+mark-count-requires c κs = search needs
+
+returns-3 : tie.Need-returns-3
+returns-3 c = sym (head-none _ _ (c .before .before .before .wide .result) (omega arith) (c .before .before .before .wide .ensures .0) (omega arith) _ refl _ (c .before .if3 .taken) (c .mark-count .ensures))
+
+count-requires : tie.Need-count-requires
+count-requires c κs = search needs
+
+enum-known-r : tie.Need-enum-known-r
+enum-known-r c = search needs
+
+enum-known-n : tie.Need-enum-known-n
+enum-known-n c = search needs
+
+mark-count-requires-2 : tie.Need-mark-count-requires-2
+mark-count-requires-2 c κs = search needs
+
+add-t33 : tie.Need-add-t33
+add-t33 c = search needs
+
+returns-4 : tie.Need-returns-4
+returns-4 c =
+    sym
+    (head-one _ _ (c .before .before .before .before .before .before .before .before .wide .result) (omega arith) (c .before .before .before .before .before .before .before .before .wide .ensures .0) (omega arith) _ refl _ _ (c .before .if4 .taken)
+    (sym (c .before .before .before .before .before .count .ensures .0) ∙ ap judged (c .before .before .before .n .given .1)) (c .mark-count2 .ensures))
+
+add-count : tie.Need-add-count
+add-count c = search needs
+
+count-requires-2 : tie.Need-count-requires-2
+count-requires-2 c κs = search needs
+
+enum-known-r-2 : tie.Need-enum-known-r-2
+enum-known-r-2 c = search needs
+
+enum-known-c : tie.Need-enum-known-c
+enum-known-c c = search needs
+
+mark-count-requires-3 : tie.Need-mark-count-requires-3
+mark-count-requires-3 c κs = search needs
+
+product-requires : tie.Need-product-requires
+product-requires c κs = (
+  subst (λ (x : Judged). Below 4294967296 x) (c .before .before .before .before .before .before .before .n .given .1) (c .before .before .before .before .before .before .before .before .before .count .ensures .1),
+  subst (λ (x : Judged). Below 4294967296 x) (c .before .before .c .given .1) (c .before .before .before .before .count2 .ensures .1),
+)
+
+add-t38 : tie.Need-add-t38
+add-t38 c = search needs
+
+returns-5 : tie.Need-returns-5
+returns-5 c =
+    sym
+    (head-stop _ _ (c .before .before .before .before .before .before .wide .result) (omega arith) (c .before .before .before .before .before .before .wide .ensures .0) (omega arith) _ refl _ _ (c .before .before .before .before .if3 .left)
+    (sym (c .before .before .before .count .ensures .0) ∙ ap judged (c .before .r .given .1)))
+
+returns-6 : tie.Need-returns-6
+returns-6 c =
+    sym
+    (head-second _ _ (c .before .before .before .before .before .before .before .before .before .before .before .wide .result) (omega arith) (c .before .before .before .before .before .before .before .before .before .before .before .wide .ensures .0) (omega arith) _ refl _ _ _ (c .before .before .before .before .before .before .before .before .before .if3 .left) (c .before .before .before .before .if4 .left)
+    (sym (c .before .before .before .before .before .before .before .before .count .ensures .0) ∙ ap judged (c .before .before .before .before .before .before .n .given .1)) (sym (c .before .before .before .count2 .ensures .0) ∙ ap judged (c .before .r2 .given .1)))
+
+returns-7 : tie.Need-returns-7
+returns-7 c =
+    sym
+    (head-two _ _ (c .before .before .before .before .before .before .before .before .before .before .before .before .before .wide .result) (omega arith) (c .before .before .before .before .before .before .before .before .before .before .before .before .before .wide .ensures .0) (omega arith) _ refl _ _ _ _ (c .before .before .before .before .before .before .before .before .before .before .before .if3 .left) (c .before .before .before .before .before .before .if4 .left)
+    (sym (c .before .before .before .before .before .before .before .before .before .before .count .ensures .0) ∙ ap judged (c .before .before .before .before .before .before .before .before .n .given .1)) (sym (c .before .before .before .before .before .count2 .ensures .0) ∙ ap judged (c .before .before .before .c .given .1))
+    (c .product .ensures) (c .before .mark-count3 .ensures))
+
+pub head-spec : {M : Type 1} → statement M
+head-spec =
+    tie.close
+    (tie.spec
+    returns
+    shared-slice-read-wide
+    wide-requires
+    returns-2
+    add-p
+    mul-k
+    array-read-k
+    mul-m
+    array-read-m
+    mark-count-requires
+    returns-3
+    count-requires
+    enum-known-r
+    enum-known-n
+    mark-count-requires-2
+    add-t33
+    returns-4
+    add-count
+    count-requires-2
+    enum-known-r-2
+    enum-known-c
+    mark-count-requires-3
+    product-requires
+    add-t38
+    returns-5
+    returns-6
+    returns-7)

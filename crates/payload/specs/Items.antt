@@ -1,0 +1,63 @@
+-- What the payload's functions answer, over the definitions of the format.
+use Prim.Native.Nat.{ℕ, _+_, _*_, _<_}
+use mathlib.Core.Bool.{cond, _&&_}
+use mathlib.Core.List.{List}
+use lib.ListN.{length}
+use lib.Dec.{leb}
+use Rattle.sim0mq.specs.declared.Judged.{Judged}
+use Rattle.sim0mq.specs.declared.Judged.the-variants.{Accepted, Refused}
+use Rattle.sim0mq.specs.Answer.{Answer, fine, refused, _>>=_, need, big}
+use Rattle.sim0mq.specs.Codes.{widthOf}
+use Rattle.sim0mq.specs.Field as F
+use Rattle.sim0mq.specs.Field.{booleans, booleansOf}
+use Rattle.sim0mq.specs.Payload.{payloadFrom, steps}
+use Rattle.payload.specs.declared.fields.Headed.{Headed}
+use Rattle.payload.specs.declared.fields.Headed.the-variants.{Accepted as Headed·Accepted, Refused as Headed·Refused}
+use Rattle.payload.specs.declared.fields.Fielded.{Fielded}
+use Rattle.payload.specs.declared.fields.Fielded.the-variants.{Accepted as Fielded·Accepted, Refused as Fielded·Refused}
+
+-- Each case of an answer, as an answer of the definitions.
+abbrev pub headed : Headed → Answer F.Head
+headed (Headed·Accepted h) = fine (record { code = h .code; values = h .values; marked = h .marked; next = h .next })
+headed (Headed·Refused r) = refused (r .number) (r .place)
+
+abbrev pub fielded : Fielded → Answer F.Field
+fielded (Fielded·Accepted f) =
+    fine (record { code = f .code; place = f .place; first = f .first; size = f .size; marked = f .marked; values = f .values })
+fielded (Fielded·Refused r) = refused (r .number) (r .place)
+
+-- An accepted number is below m.
+abbrev pub Below : ℕ → Judged → Type 0
+Below m (Accepted n) = n < m
+Below m (Refused r) = Unit {0}
+
+-- The number in the n bytes from `at` on, where they are there and no more than eight; else 0.
+unfoldable pub numberAt : List ℕ → ℕ → ℕ → ℕ
+numberAt s at n = cond (leb (at + n) (length s) && leb n 8) (big s at n) 0
+
+-- The number of bytes of n values of code c, all there from `first` on.
+unfoldable pub sizeAt : List ℕ → ℕ → ℕ → ℕ → Answer ℕ
+sizeAt s c n first = do
+  there ← need s first (n * widthOf c)
+  fine (n * widthOf c)
+
+-- n Booleans from `at` on: the place after them.
+unfoldable pub booleansEnd : List ℕ → ℕ → ℕ → Answer ℕ
+booleansEnd s n at = do
+  pass ← booleans s n at
+  fine (at + n)
+
+-- The n values of code c from `first` on, all there, with Booleans judged: the place after them.
+unfoldable pub valuesEnd : List ℕ → ℕ → ℕ → ℕ → Answer ℕ
+valuesEnd s c n first = do
+  size ← sizeAt s c n first
+  booleansEnd s (booleansOf c size) first >>= (λ p. fine (first + size))
+
+-- The steps of n fields from `at` on, after k steps; and those of a payload.
+unfoldable pub stepsFrom : List ℕ → ℕ → ℕ → ℕ → Answer ℕ
+stepsFrom s n at k = do
+  fs ← payloadFrom s n at
+  fine (k + steps fs)
+
+unfoldable pub payloadSteps : List ℕ → ℕ → Answer ℕ
+payloadSteps s n = stepsFrom s n 0 0

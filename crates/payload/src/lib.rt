@@ -1,0 +1,66 @@
+// The payload: a part of a message that is read by itself, with places within it.
+ghost use mathlib.Core.Path.{_≡_};
+ghost use Rattle.sim0mq.specs.Views.{judged};
+ghost use Rattle.payload.specs.Items.{payloadSteps};
+use crate::fields::Headed;
+use crate::fields::head;
+use crate::fields::values;
+use crate::marks::mark;
+use sim0mq::Judged;
+use sim0mq::Refusal;
+
+pub mod fields;
+pub mod marks;
+pub mod numbers;
+pub mod tables;
+
+// The payload s of n fields: its steps, one for each field and each mark.
+pub fn payload(s: &[u8], n: usize) -> Judged
+    ensures { λ r. ⌜ judged r ≡ payloadSteps (now (s .entry)) n ⌝ }
+{
+    let mut left = n;
+    let mut at = 0;
+    let mut steps = 0;
+    'fields: loop {
+        if left == 0 {
+            if at < s.len() {
+                break 'fields Judged::Refused(Refusal {
+                    number: 13,
+                    place: at,
+                });
+            }
+            break 'fields Judged::Accepted(steps);
+        }
+        match head(s, at) {
+            Headed::Refused(r) => {
+                break 'fields Judged::Refused(r);
+            }
+            Headed::Accepted(h) => {
+                let mut marked = h.marked;
+                let mut p = h.next;
+                while 0 < marked {
+                    match mark(s, p) {
+                        Judged::Refused(r) => {
+                            break 'fields Judged::Refused(r);
+                        }
+                        Judged::Accepted(q) => {
+                            p = q;
+                        }
+                    }
+                    marked -= 1;
+                    steps += 1;
+                }
+                match values(s, h.code, h.values, p) {
+                    Judged::Refused(r) => {
+                        break 'fields Judged::Refused(r);
+                    }
+                    Judged::Accepted(e) => {
+                        at = e;
+                    }
+                }
+                left -= 1;
+                steps += 1;
+            }
+        }
+    }
+}
