@@ -1,7 +1,9 @@
 // The payload: a part of a message that is read by itself, with places within it.
 ghost use mathlib.Core.Path.{_≡_};
+ghost use Prim.Native.Nat.{_+_};
+ghost use lib.ListN.{length};
 ghost use Rattle.sim0mq.specs.Views.{judged};
-ghost use Rattle.payload.specs.Items.{payloadSteps};
+ghost use Rattle.payload.specs.Items.{payloadSteps, Below};
 use crate::fields::Headed;
 use crate::fields::head;
 use crate::fields::values;
@@ -14,9 +16,9 @@ pub mod marks;
 pub mod numbers;
 pub mod tables;
 
-// The payload s of n fields: its steps, one for each field and each mark.
+// The payload s of n fields: its steps, one for each field and each mark, and no more than its bytes.
 pub fn payload(s: &[u8], n: usize) -> Judged
-    ensures { λ r. ⌜ judged r ≡ payloadSteps (now (s .entry)) n ⌝ }
+    ensures { λ r. ⌜ (judged r ≡ payloadSteps (now (s .entry)) n) × Below (length (now (s .entry)) + 1) r ⌝ }
 {
     let mut left = n;
     let mut at = 0;

@@ -1,5 +1,5 @@
 -- The header judge takes exactly the headers: each frame after 0 is a field of an allowed type, judged where the frame before ends.
-use Prim.Native.Nat.{ℕ, _+_, _*_, _≤_, zero-le}
+use Prim.Native.Nat.{ℕ, _+_, _*_, _≤_, _<_, zero-le}
 use mathlib.Core.Path.{_≡_, refl, ap, sym, _∙_, subst}
 use mathlib.Core.Bool.{true, _&&_}
 use mathlib.Core.List.{List, [], _∷_, _++_, flatMap}
@@ -16,7 +16,7 @@ use Rattle.sim0mq.specs.Allowed.{number, FieldParts, joined, fieldBytes,
 use Rattle.sim0mq.specs.Demand2.{cutFrames}
 use Rattle.sim0mq.proofs.Answers.{needed, needed-bind, guarded, guarded-bind, bind-fine, fine-eq, and-true}
 use Rattle.sim0mq.proofs.Stands.{Stands, stands-to, stands-head, stands-tail, stands-left, stands-right, stands-nil, stands-cons, stands-join, big-number}
-use Rattle.sim0mq.proofs.Rows.{status-scalar, count-scalar}
+use Rattle.sim0mq.proofs.Rows.{eight-wide, status-scalar, count-scalar}
 use Rattle.sim0mq.proofs.FieldLaws.{fieldAt, after-at, field-complete, field-sound}
 
 -- frame 0
@@ -102,17 +102,34 @@ values-there : {s : List ℕ} {at : ℕ} (f : FieldParts) → Stands s at (field
 values-there f st =
     stands-right (joined (f .marks)) (f .values) (stands-right (joined (f .counts)) (joined (f .marks) ++ f .values) (stands-tail st))
 
--- the first value byte of a frame whose code has no count is there, since its value has at least one byte
-some-value : (cs : List (List ℕ)) (w n : ℕ) → length cs ≡ 0 → 1 ≤ w → n ≡ valuesAsked cs * w → 1 ≤ n
+-- a frame of a type without a count has as many value bytes as its type says, at least one and at most eight
+no-counts : (cs : List (List ℕ)) (w : ℕ) → length cs ≡ 0 → valuesAsked cs * w ≡ w
 unfolding valuesAsked
-some-value [] w n e h z = omega arith
-some-value (x ∷ xs) w n e h z = absurd (omega arith)
+no-counts [] w e = omega arith
+no-counts (x ∷ xs) w e = absurd (omega arith)
+
+scalar-size : (f : FieldParts) → IsField f → countsOf (f .code) ≡ 0 → length (f .values) ≡ widthOf (f .code)
+scalar-size f i e = i .sized ∙ no-counts (f .counts) (widthOf (f .code)) (i .counted ∙ e)
 
 first-value : {s : List ℕ} {at : ℕ} (f : FieldParts) → IsField f → (countsOf (f .code) ≡ 0) × (1 ≤ widthOf (f .code))
     → Stands s at (fieldBytes f) → byte s (fieldAt at f .first) ≡ getD (f .values) 0 0
 first-value {s} {at} f i c st =
-    let some = some-value (f .counts) (widthOf (f .code)) (length (f .values)) (i .counted ∙ c .0) (c .1) (i .sized) in
-    ap (λ (k : ℕ). byte s k) (sym (add-zero (fieldAt at f .first))) ∙ values-there f st .same 0 some
+    let size = scalar-size f i (c .0) in
+    let some = c .1 in
+    ap (λ (k : ℕ). byte s k) (sym (add-zero (fieldAt at f .first))) ∙ values-there f st .same 0 (omega arith)
+
+pub frame-scalar : (s codes : List ℕ) (at : ℕ) (x : Field) → ((c : ℕ) → among c codes ≡ true → (countsOf c ≡ 0) × (1 ≤ widthOf c))
+    → frame s codes at ≡ fine x → (x .first < length s) × (x .first + x .size ≤ length s) × (x .size ≤ 8)
+frame-scalar s codes at x scalar q =
+    let a = frame-sound s codes at (λ (y : Field). fine y) {v = x} (rw q) in
+    let f = a .0 in
+    let c = scalar (f .code) (a .1 .allowed) in
+    let size = scalar-size f (a .1 .isField) (c .0) in
+    let some = c .1 in
+    let fits = values-there f (a .2) .fits in
+    let most = eight-wide (f .code) in
+    subst (λ (y : Field). (y .first < length s) × (y .first + y .size ≤ length s) × (y .size ≤ 8)) (fine-eq (a .3))
+    (omega arith, fits, omega arith)
 
 -- frames 6 and 7
 status-complete : {s : List ℕ} {at : ℕ} {f : FieldParts} → IsFrame statusCodes f → statusTaken (getD (f .values) 0 0) ≡ true

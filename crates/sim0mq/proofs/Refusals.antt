@@ -150,7 +150,7 @@ module _ (s : List ℕ) where
       (booleans-placed (booleansOf (f .code) (f .size)) (f .first) (omega (arith, some-booleans (f .code) (f .size)))) (λ pass e. tt))
 
   -- a field that was taken lies in s
-  field-within : (at : ℕ) (x : Field) → field s at ≡ fine x → (x .first ≤ length s) × (after x ≤ length s)
+  pub field-within : (at : ℕ) (x : Field) → field s at ≡ fine x → (x .first ≤ length s) × (after x ≤ length s)
   unfolding after
   field-within at x q =
       let f = field-sound s at x q in
@@ -158,7 +158,7 @@ module _ (s : List ℕ) where
       let fits = f .there .fits in
       (omega arith, omega arith)
 
-  payload-placed : (n at : ℕ) → at ≤ length s → Placed (payloadFrom s n at)
+  pub payload-placed : (n at : ℕ) → at ≤ length s → Placed (payloadFrom s n at)
   unfolding payloadFrom among
   payload-placed zero at h = guard-placed (leb (length s) at) 13 at _ refl h (λ t. tt)
   payload-placed (suc n) at h =
@@ -264,7 +264,7 @@ unfolding among
 room-held noTable n m b h = rw (no-room-needed n) h
 room-held (table r) n m b h = guard-held (readingNumbers (table r)) m (enough (table r) n) 14 0 b refl zero-le (λ t. h)
 
-header-within : (s : List ℕ) (h : Header) → header s ≡ fine h → h .next ≤ length s
+pub header-within : (s : List ℕ) (h : Header) → header s ≡ fine h → h .next ≤ length s
 header-within s h q =
     let x = header-sound s h q in
     let e : h .next ≡ length (headerBytes (x .parts)) = ap (λ (z : Header). z .next) (x .says) in

@@ -2,13 +2,13 @@
 use Prim.Native.Nat.{ℕ, zero, suc, _≤_, _<_}
 use native.Mathlib.Nat.{not-suc-le-zero, le-of-suc-le-suc}
 use mathlib.Core.Path.{_≡_, refl}
-use mathlib.Core.Bool.{Bool, true, false, _&&_, _||_, false≢true}
+use mathlib.Core.Bool.{Bool, true, false, not, _&&_, _||_, false≢true}
 use mathlib.Core.List.{List, [], _∷_}
 use lib.ListN.{length, getD}
 use lib.Dec.{leb, eqb}
-use borrow.Author.Tests.{leb-true, eqb-true}
-use Rattle.sim0mq.specs.Codes.{countRow, countsOf, widthOf}
-use Rattle.sim0mq.specs.Header.{statusCodes, countCodes, among}
+use borrow.Author.Tests.{leb-true, eqb-true, not-true}
+use Rattle.sim0mq.specs.Codes.{countRow, widthRow, countsOf, widthOf, boolean}
+use Rattle.sim0mq.specs.Header.{idCodes, numberCodes, statusCodes, countCodes, among}
 use Rattle.sim0mq.proofs.Answers.{and-true}
 
 -- each number of a row passes a test
@@ -46,6 +46,11 @@ pub two-counts : (c : ℕ) → countsOf c ≤ 2
 unfolding countsOf allPass
 two-counts c = leb-true _ 2 (pass-any (λ (n : ℕ). leb n 2) countRow c refl refl)
 
+-- no width is above eight bytes
+pub eight-wide : (c : ℕ) → widthOf c ≤ 8
+unfolding widthOf allPass
+eight-wide c = leb-true _ 8 (pass-any (λ (w : ℕ). leb w 8) widthRow c refl refl)
+
 -- the type codes of frames 6 and 7 have no count, and a value of at least one byte
 scalar : ℕ → Bool
 scalar c = eqb (countsOf c) 0 && leb 1 (widthOf c)
@@ -62,3 +67,23 @@ status-scalar c e = scalar-among statusCodes c refl e
 pub count-scalar : (c : ℕ) → among c countCodes ≡ true → (countsOf c ≡ 0) × (1 ≤ widthOf c)
 unfolding allPass scalar countsOf widthOf
 count-scalar c e = scalar-among countCodes c refl e
+
+-- no frame's type is a Boolean
+not-boolean : (row : List ℕ) (c : ℕ) → allPass (λ (k : ℕ). not (boolean k)) row ≡ true → among c row ≡ true → boolean c ≡ false
+not-boolean row c a e = not-true (boolean c) (pass-among (λ (k : ℕ). not (boolean k)) row c a e)
+
+pub id-not-boolean : (c : ℕ) → among c idCodes ≡ true → boolean c ≡ false
+unfolding allPass boolean
+id-not-boolean c e = not-boolean idCodes c refl e
+
+pub number-not-boolean : (c : ℕ) → among c numberCodes ≡ true → boolean c ≡ false
+unfolding allPass boolean
+number-not-boolean c e = not-boolean numberCodes c refl e
+
+pub status-not-boolean : (c : ℕ) → among c statusCodes ≡ true → boolean c ≡ false
+unfolding allPass boolean
+status-not-boolean c e = not-boolean statusCodes c refl e
+
+pub count-not-boolean : (c : ℕ) → among c countCodes ≡ true → boolean c ≡ false
+unfolding allPass boolean
+count-not-boolean c e = not-boolean countCodes c refl e

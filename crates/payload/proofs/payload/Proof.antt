@@ -1,7 +1,6 @@
 -- The answer from here is the answer of the whole: outside, from the next field on; inside, from the field's next mark on. No step lacks a byte,
--- so the steps fit wherever the bytes do.
-use native.Mathlib.Omega.{arith}
 use borrow.Author.Needs.{needs}
+use native.Mathlib.Omega.{arith}
 use Prim.Native.Nat.{_+_, _≤_}
 use mathlib.Core.Path.{_≡_, refl, sym, ap, _∙_}
 use lib.ListN.{length}
@@ -100,26 +99,28 @@ fields-again c =
     (c .before .before .before .before .before .before .before .before .before .before .before .fields .inv .0 ∙ steps-more _ _ _ _ taken _ marked _ _ _ _ (omega arith) valued (omega arith), omega arith, omega arith)
 
 returns : tie.Need-returns Inv-loop μ-loop Inv-fields μ-fields
-returns c = sym (c .before .before .fields .inv .0 ∙ steps-over _ _ _ _ (c .before .if1 .taken) (c .if2 .taken))
+returns c = (sym (c .before .before .fields .inv .0 ∙ steps-over _ _ _ _ (c .before .if1 .taken) (c .if2 .taken)), tt)
 
 returns-2 : tie.Need-returns-2 Inv-loop μ-loop Inv-fields μ-fields
-returns-2 c = sym (c .before .before .fields .inv .0 ∙ steps-end _ _ _ _ (c .before .if1 .taken) (omega arith))
+returns-2 c = (sym (c .before .before .fields .inv .0 ∙ steps-end _ _ _ _ (c .before .if1 .taken) (omega arith)), omega arith)
 
 returns-3 : tie.Need-returns-3 Inv-loop μ-loop Inv-fields μ-fields
-returns-3 c = sym (c .before .before .before .before .before .fields .inv .0 ∙ steps-head-stop _ _ _ _ _ _ (c .before .before .before .before .if1 .left) (sym (c .before .before .before .head .ensures) ∙ ap headed (c .before .r .given .1)))
+returns-3 c =
+    let stopped = sym (c .before .before .before .head .ensures) ∙ ap headed (c .before .r .given .1) in
+    (sym (c .before .before .before .before .before .fields .inv .0 ∙ steps-head-stop _ _ _ _ _ _ (c .before .before .before .before .if1 .left) stopped), tt)
 
 returns-4 : tie.Need-returns-4 Inv-loop μ-loop Inv-fields μ-fields
 returns-4 c =
     let taken = sym (c .before .before .before .before .before .before .before .before .before .head .ensures) ∙ ap headed (c .before .before .before .before .before .before .before .h .given .1) in
     let stopped = c .before .before .before .before .before .loop .inv .0 ∙ marks-stop _ _ _ _ _ (omega arith) (sym (c .before .before .before .mark .ensures) ∙ ap judged (c .before .r2 .given .1)) in
-    sym (c .before .before .before .before .before .before .before .before .before .before .before .fields .inv .0 ∙ steps-mark-stop _ _ _ _ taken _ _ _ (c .before .before .before .before .before .before .before .before .before .before .if1 .left) stopped)
+    (sym (c .before .before .before .before .before .before .before .before .before .before .before .fields .inv .0 ∙ steps-mark-stop _ _ _ _ taken _ _ _ (c .before .before .before .before .before .before .before .before .before .before .if1 .left) stopped), tt)
 
 returns-5 : tie.Need-returns-5 Inv-loop μ-loop Inv-fields μ-fields
 returns-5 c =
     let taken = sym (c .before .before .before .before .before .before .before .before .before .head .ensures) ∙ ap headed (c .before .before .before .before .before .before .before .h .given .1) in
     let marked = c .before .before .before .before .before .loop .inv .0 ∙ marks-done _ _ _ (omega arith) in
     let stopped = sym (c .before .before .before .values .ensures) ∙ ap judged (c .before .r3 .given .1) in
-    sym (c .before .before .before .before .before .before .before .before .before .before .before .fields .inv .0 ∙ steps-values-stop _ _ _ _ taken _ marked _ _ _ (c .before .before .before .before .before .before .before .before .before .before .if1 .left) stopped)
+    (sym (c .before .before .before .before .before .before .before .before .before .before .before .fields .inv .0 ∙ steps-values-stop _ _ _ _ taken _ marked _ _ _ (c .before .before .before .before .before .before .before .before .before .before .if1 .left) stopped), tt)
 
 pub payload-spec : {M : Type 1} → statement M
 payload-spec =

@@ -1,0 +1,281 @@
+// The header: the eight frames, in and out as an array by value.
+ghost use mathlib.Core.Path.{_≡_};
+ghost use Rattle.sim0mq.specs.Header.{among as amongOf, digit as digitOf, magic as magicOf, frame as frameOf, status as statusOf, header as headerOf};
+ghost use Rattle.sim0mq.specs.Views.{judged};
+ghost use Rattle.payload.specs.Items.{fielded};
+ghost use Rattle.header.specs.Frames.{literalEnd, editionEnd, NoBoolean, nthFrame, counted, declaredNumber, headerRest, told};
+use payload::fields::Field;
+use payload::fields::Fielded;
+use payload::fields::outline;
+use payload::numbers::number;
+use payload::numbers::wide;
+use sim0mq::Judged;
+use sim0mq::Refusal;
+
+// A frame's place, which is that of its first byte, and its type code.
+pub struct Frame {
+    pub place: usize,
+    pub code: usize,
+}
+
+// The declared number of fields, and the place after the header.
+pub struct End {
+    pub fields: usize,
+    pub next: usize,
+}
+
+pub enum Said {
+    Accepted(End),
+    Refused(Refusal),
+}
+
+// What the header says, and the frames beside it: on a refusal they are those that went in.
+pub struct Answer {
+    pub said: Said,
+    pub frames: [Frame; 8],
+}
+
+const MAGIC: [u8; 8] = [9, 0, 0, 0, 5, 83, 73, 77];
+
+const ID_CODES: [u8; 4] = [9, 10, 1, 2];
+
+const NUMBER_CODES: [u8; 1] = [3];
+
+const STATUS_CODES: [u8; 1] = [0];
+
+const COUNT_CODES: [u8; 3] = [0, 1, 2];
+
+// Frame 0 before its digits: the place after it.
+fn literal(s: &[u8]) -> Judged
+    ensures { λ r. ⌜ judged r ≡ literalEnd (now (s .entry)) ⌝ }
+{
+    let mut i: usize = 0;
+    while i < 8 {
+        if s.len() <= i {
+            return sim0mq::refuse(1, s.len());
+        }
+        if s[i] == MAGIC[i] {
+            i += 1;
+        } else {
+            return sim0mq::refuse(2, i);
+        }
+    }
+    Judged::Accepted(8)
+}
+
+// The digit at `at`.
+fn digit(s: &[u8], at: usize) -> Judged
+    ensures { λ r. ⌜ judged r ≡ digitOf (now (s .entry)) at ⌝ }
+{
+    if s.len() <= at {
+        return sim0mq::refuse(1, s.len());
+    }
+    let d = wide(s[at]);
+    if d < 48 {
+        return sim0mq::refuse(2, at);
+    }
+    if 57 < d {
+        return sim0mq::refuse(2, at);
+    }
+    Judged::Accepted(d)
+}
+
+// Frame 0: the place after it.
+fn magic(s: &[u8]) -> Judged
+    ensures { λ r. ⌜ judged r ≡ magicOf (now (s .entry)) ⌝ }
+{
+    match literal(s) {
+        Judged::Refused(r) => Judged::Refused(r),
+        Judged::Accepted(_) => match digit(s, 8) {
+            Judged::Refused(r) => Judged::Refused(r),
+            Judged::Accepted(a) => match digit(s, 9) {
+                Judged::Refused(r) => Judged::Refused(r),
+                Judged::Accepted(b) => edition(a, b),
+            },
+        },
+    }
+}
+
+// Frame 0's end where its digits are 0 and 1 in ASCII.
+fn edition(a: usize, b: usize) -> Judged
+    ensures { λ r. ⌜ judged r ≡ editionEnd a b ⌝ }
+{
+    if a != 48 {
+        return sim0mq::refuse(3, 8);
+    }
+    if b != 49 {
+        return sim0mq::refuse(3, 8);
+    }
+    Judged::Accepted(10)
+}
+
+// Whether k is one of these numbers.
+fn among(k: u8, row: &[u8]) -> bool
+    ensures { λ r. ⌜ r ≡ amongOf k (now (row .entry)) ⌝ }
+{
+    let mut i: usize = 0;
+    while i < row.len() {
+        if row[i] == k {
+            return true;
+        }
+        i += 1;
+    }
+    false
+}
+
+// The frame at `at`, of one of these types.
+fn typed(s: &[u8], codes: &[u8], at: usize) -> Fielded
+    requires { ⌜ NoBoolean (now codes) ⌝ }
+    ensures { λ r. ⌜ fielded r ≡ frameOf (now (s .entry)) (now (codes .entry)) at ⌝ }
+{
+    if s.len() <= at {
+        return Fielded::Refused(Refusal {
+            number: 1,
+            place: s.len(),
+        });
+    }
+    if among(s[at], codes) {
+        return outline(s, at);
+    }
+    Fielded::Refused(Refusal {
+        number: 4,
+        place: at,
+    })
+}
+
+// Frame 6, at `at`: its value is a status.
+fn status(s: &[u8], at: usize) -> Fielded
+    ensures { λ r. ⌜ fielded r ≡ statusOf (now (s .entry)) at ⌝ }
+{
+    match typed(s, &STATUS_CODES, at) {
+        Fielded::Refused(r) => Fielded::Refused(r),
+        Fielded::Accepted(f) => {
+            let first = f.first;
+            let x = s[first];
+            if x < 1 {
+                return Fielded::Refused(Refusal {
+                    number: 6,
+                    place: first,
+                });
+            }
+            if 3 < x {
+                return Fielded::Refused(Refusal {
+                    number: 6,
+                    place: first,
+                });
+            }
+            Fielded::Accepted(f)
+        }
+    }
+}
+
+// The declared number of fields, with its frame.
+struct Count {
+    field: Field,
+    number: usize,
+}
+
+enum Counted {
+    Accepted(Count),
+    Refused(Refusal),
+}
+
+// Frame 7, at `at`: its value, the declared number of fields, is neither negative nor too large.
+fn declared(s: &[u8], at: usize) -> Counted
+    ensures { λ r. ⌜ counted r ≡ declaredNumber (now (s .entry)) at ⌝ }
+{
+    match typed(s, &COUNT_CODES, at) {
+        Fielded::Refused(r) => Counted::Refused(r),
+        Fielded::Accepted(field) => {
+            let first = field.first;
+            if 128 <= s[first] {
+                return Counted::Refused(Refusal {
+                    number: 5,
+                    place: first,
+                });
+            }
+            let number = number(s, first, field.size);
+            if 256 < number {
+                return Counted::Refused(Refusal {
+                    number: 7,
+                    place: first,
+                });
+            }
+            Counted::Accepted(Count { field, number })
+        }
+    }
+}
+
+// Frame k, one of 1 to 6, at `at`.
+fn nth(s: &[u8], k: usize, at: usize) -> Fielded
+    ensures { λ r. ⌜ fielded r ≡ nthFrame (now (s .entry)) k at ⌝ }
+{
+    if k <= 4 {
+        return typed(s, &ID_CODES, at);
+    }
+    if k == 5 {
+        return typed(s, &NUMBER_CODES, at);
+    }
+    status(s, at)
+}
+
+// The frames after frame 0, which ends at `start`.
+fn rest(s: &[u8], frames: [Frame; 8], start: usize) -> Answer
+    ensures { λ r. ⌜ r ≡ told frames (headerRest (now (s .entry)) start) ⌝ }
+{
+    let mut fs = frames;
+    fs[0] = Frame { place: 0, code: 9 };
+    let mut at = start;
+    let mut k: usize = 1;
+    while k < 7 {
+        match nth(s, k, at) {
+            Fielded::Refused(r) => {
+                return Answer {
+                    said: Said::Refused(r),
+                    frames: frames,
+                };
+            }
+            Fielded::Accepted(f) => {
+                fs[k] = Frame {
+                    place: f.place,
+                    code: f.code,
+                };
+                at = f.first + f.size;
+            }
+        }
+        k += 1;
+    }
+    match declared(s, at) {
+        Counted::Refused(r) => Answer {
+            said: Said::Refused(r),
+            frames: frames,
+        },
+        Counted::Accepted(c) => {
+            let f = c.field;
+            fs[7] = Frame {
+                place: f.place,
+                code: f.code,
+            };
+            Answer {
+                said: Said::Accepted(End {
+                    fields: c.number,
+                    next: f.first + f.size,
+                }),
+                frames: fs,
+            }
+        }
+    }
+}
+
+// The header at the front of s: the declared number of fields and the header's end, with the frames; or the refusal, with the frames as they were.
+pub fn header(s: &[u8], frames: [Frame; 8]) -> Answer
+    ensures { λ r. ⌜ r ≡ told frames (headerOf (now (s .entry))) ⌝ }
+{
+    match magic(s) {
+        Judged::Refused(r) => Answer {
+            said: Said::Refused(r),
+            frames: frames,
+        },
+        Judged::Accepted(at) => rest(s, frames, at),
+    }
+}
