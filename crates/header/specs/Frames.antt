@@ -9,6 +9,7 @@ use Rattle.sim0mq.specs.Codes.{boolean}
 use Rattle.sim0mq.specs.Field.{Field, after}
 use Rattle.sim0mq.specs.Header as H
 use Rattle.sim0mq.specs.Header.{magicBytes, idCodes, numberCodes, literal, frame, status, declared, frameOf, among}
+use Rattle.payload.specs.Items.{seen}
 use Rattle.header.specs.declared.Frame.{Frame}
 use Rattle.header.specs.declared.Answer as A
 use Rattle.header.specs.declared.Said.the-variants.{Accepted, Refused}
@@ -64,13 +65,7 @@ headerRest s at = headerFrom s 6 1 (record { place = 0; code = 9 } ∷ []) at
 
 -- Each case of an answer, as an answer of the definitions; and the whole answer, told by the definition and by the frames that went in.
 abbrev pub counted : Counted → Answer Declares
-counted (Counted·Accepted c) =
-    let f = c .field in
-    fine
-    (record {
-      field = record { code = f .code; place = f .place; first = f .first; size = f .size; marked = f .marked; values = f .values };
-      number = c .number;
-    })
+counted (Counted·Accepted c) = fine (record { field = seen (c .field); number = c .number })
 counted (Counted·Refused r) = refused (r .number) (r .place)
 
 abbrev pub framed : H.Frame → Frame

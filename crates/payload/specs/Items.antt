@@ -13,6 +13,7 @@ use Rattle.sim0mq.specs.Field.{booleans, booleansOf}
 use Rattle.sim0mq.specs.Payload.{payloadFrom, steps}
 use Rattle.payload.specs.declared.fields.Headed.{Headed}
 use Rattle.payload.specs.declared.fields.Headed.the-variants.{Accepted as Headed·Accepted, Refused as Headed·Refused}
+use Rattle.payload.specs.declared.fields.Field.{Field}
 use Rattle.payload.specs.declared.fields.Fielded.{Fielded}
 use Rattle.payload.specs.declared.fields.Fielded.the-variants.{Accepted as Fielded·Accepted, Refused as Fielded·Refused}
 
@@ -21,9 +22,11 @@ abbrev pub headed : Headed → Answer F.Head
 headed (Headed·Accepted h) = fine (record { code = h .code; values = h .values; marked = h .marked; next = h .next })
 headed (Headed·Refused r) = refused (r .number) (r .place)
 
+abbrev pub seen : Field → F.Field
+seen f = record { code = f .code; place = f .place; first = f .first; size = f .size; marked = f .marked; values = f .values }
+
 abbrev pub fielded : Fielded → Answer F.Field
-fielded (Fielded·Accepted f) =
-    fine (record { code = f .code; place = f .place; first = f .first; size = f .size; marked = f .marked; values = f .values })
+fielded (Fielded·Accepted f) = fine (seen f)
 fielded (Fielded·Refused r) = refused (r .number) (r .place)
 
 -- An accepted number is below m.
