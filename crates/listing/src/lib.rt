@@ -1,0 +1,132 @@
+// What reading answered, as text: the lines that document 01 shows under "Examples".
+//
+// The text is put into a lent buffer, piece after piece. A piece that does not fit leaves the place past the buffer, and so does each piece after
+// it, so that one test at the end tells whether the whole text is there. The longest text has a first line of at most 72 bytes and 256 rows of at
+// most 59, so 16,384 bytes are always enough.
+use reading::Found;
+use reading::Reading;
+use sim0mq::Refusal;
+ghost use mathlib.Core.Path.{_≡_};
+ghost use Rattle.io.specs.Counts.{Counts};
+ghost use Rattle.listing.specs.Put.{placeAfter, withText};
+
+// How many table numbers a field has.
+const ROW: usize = 5;
+
+// The text of what reading answered, at the front of `out`: how many bytes it has, and 0 where `out` is too short for it or `table` for its rows.
+// Each line ends with a newline. Where it answers 0, what stands in `out` is of no account.
+pub fn listing(said: Reading, table: &[u32], out: &mut [u8]) -> usize
+    ensures { λ r. ⌜ Counts r (now (out .exit)) ⌝ }
+{
+    match said {
+        Reading::Accepted(found) => {
+            let at = accepted(found, out);
+            let end = rows(found.fields, table, out, at);
+            whole(end, out)
+        }
+        Reading::Refused(refusal) => {
+            let end = refused(refusal, out);
+            whole(end, out)
+        }
+    }
+}
+
+// The first line of that text alone, at the front of `out`: how many bytes it has, and 0 where `out` is too short for it.
+pub fn first_line(said: Reading, out: &mut [u8]) -> usize
+    ensures { λ r. ⌜ Counts r (now (out .exit)) ⌝ }
+{
+    match said {
+        Reading::Accepted(found) => {
+            let end = accepted(found, out);
+            whole(end, out)
+        }
+        Reading::Refused(refusal) => {
+            let end = refused(refusal, out);
+            whole(end, out)
+        }
+    }
+}
+
+// How many bytes of `out` stand before `end`: none where `end` is past it.
+fn whole(end: usize, out: &[u8]) -> usize
+    ensures { λ r. ⌜ Counts r (now (out .entry)) ⌝ }
+{
+    if end <= out.len() { end } else { 0 }
+}
+
+// The place after the line of an accepted message: its fields, steps and length.
+fn accepted(found: Found, out: &mut [u8]) -> usize {
+    let mut at = put(b"SIM01 fields ", out, 0);
+    at = number(found.fields as u64, out, at);
+    at = put(b" steps ", out, at);
+    at = number(found.steps as u64, out, at);
+    at = put(b" length ", out, at);
+    at = number(found.length as u64, out, at);
+    put(b"\n", out, at)
+}
+
+// The place after the line of a refusal: its number and place.
+fn refused(refusal: Refusal, out: &mut [u8]) -> usize {
+    let mut at = put(b"refused ", out, 0);
+    at = number(refusal.number as u64, out, at);
+    at = put(b" at ", out, at);
+    at = number(refusal.place as u64, out, at);
+    put(b"\n", out, at)
+}
+
+// The place after the rows of the first `fields` fields, put from `from` on; past `out` where `table` is too short for them.
+fn rows(fields: usize, table: &[u32], out: &mut [u8], from: usize) -> usize {
+    if table.len() / ROW < fields {
+        return out.len() + 1;
+    }
+    let mut at = from;
+    let mut i = 0;
+    while i < fields {
+        at = row(i, &table[ROW * i..ROW * i + ROW], out, at);
+        i += 1;
+    }
+    at
+}
+
+// The place after the row of field i, put from `from` on: i and its numbers.
+fn row(i: usize, numbers: &[u32], out: &mut [u8], from: usize) -> usize {
+    let mut at = number(i as u64, out, from);
+    let mut j = 0;
+    while j < numbers.len() {
+        at = put(b" ", out, at);
+        at = number(wide(numbers[j]), out, at);
+        j += 1;
+    }
+    put(b"\n", out, at)
+}
+
+// A table number, as a number to print.
+fn wide(x: u32) -> u64 {
+    x as u64
+}
+
+// The place after n's decimal digits, put from `from` on.
+fn number(n: u64, out: &mut [u8], from: usize) -> usize {
+    let mut digits = [0u8; 20];
+    let k = io::decimal(n, &mut digits);
+    put(&digits[..k], out, from)
+}
+
+// The place after `text`, put from `from` on; one past the end of `out`, which is left as it was, where the text does not fit.
+pub fn put(text: &[u8], out: &mut [u8], from: usize) -> usize
+    ensures { λ r. ⌜ r ≡ placeAfter (now (out .entry)) from (now (text .entry)) ⌝ }
+    ensures { λ _. ⌜ now (out .exit) ≡ withText (now (out .entry)) from (now (text .entry)) ⌝ }
+{
+    if out.len() < from {
+        return out.len() + 1;
+    }
+    if out.len() - from < text.len() {
+        return out.len() + 1;
+    }
+    let mut i = 0;
+    while i < text.len() {
+        out[from + i] = text[i];
+        i += 1;
+    }
+    from + text.len()
+}

@@ -1,0 +1,112 @@
+// The words and numbers of a line.
+ghost use Prim.Native.Nat.{_≤_, max};
+ghost use lib.ListN.{length};
+
+// Stands for no number, and for one that is past any that a case uses.
+pub(crate) const NONE: usize = usize::MAX;
+
+// The largest number that one more digit may follow.
+const MOST: usize = 1000000;
+
+// A number, and the place after it.
+pub(crate) struct Figure {
+    pub value: usize,
+    pub at: usize,
+}
+
+// The bytes of `text` from `from` up to `to`; none where `text` has no such part.
+pub(crate) fn part(text: &[u8], from: usize, to: usize) -> &[u8] {
+    if to <= text.len() {
+        if from <= to {
+            return &text[from..to];
+        }
+    }
+    &text[0..0]
+}
+
+// Whether `line` begins with `word`.
+pub(crate) fn starts(line: &[u8], word: &[u8]) -> bool {
+    check::same(part(line, 0, word.len()), word)
+}
+
+// The place of the first byte `b` of `line` from `from` on; its end where there is none.
+pub(crate) fn find(line: &[u8], from: usize, b: u8) -> usize
+    ensures { λ r. ⌜ (from ≤ r) × (r ≤ max from (length (now (line .entry)))) ⌝ }
+{
+    let mut at = from;
+    while at < line.len() {
+        if line[at] == b {
+            return at;
+        }
+        at += 1;
+    }
+    at
+}
+
+// The number that stands in `line` at `from`, in decimal or, after 0x, in hexadecimal.
+pub(crate) fn number(line: &[u8], from: usize) -> Figure {
+    if line.len() <= from {
+        return Figure {
+            value: NONE,
+            at: from,
+        };
+    }
+    if starts(part(line, from, line.len()), b"0x") {
+        return digits(line, from + 2, true);
+    }
+    digits(line, from, false)
+}
+
+// The number that stands in `line` from `from` to its end.
+pub(crate) fn last(line: &[u8], from: usize) -> usize {
+    let n = number(line, from);
+    if n.at == line.len() { n.value } else { NONE }
+}
+
+// The number whose digits stand in `line` at `from`.
+fn digits(line: &[u8], from: usize, hexadecimal: bool) -> Figure {
+    let mut value = 0;
+    let mut at = from;
+    while at < line.len() {
+        let d = digit(line[at], hexadecimal);
+        if 16 <= d {
+            break;
+        }
+        value = longer(value, d, hexadecimal);
+        at += 1;
+    }
+    if at == from {
+        return Figure { value: NONE, at };
+    }
+    Figure { value, at }
+}
+
+// The number `value` with the digit d behind it.
+fn longer(value: usize, d: usize, hexadecimal: bool) -> usize {
+    if MOST < value {
+        return NONE;
+    }
+    if 16 <= d {
+        return NONE;
+    }
+    if hexadecimal {
+        value * 16 + d
+    } else {
+        value * 10 + d
+    }
+}
+
+// The digit that `b` writes; 16 where it writes none.
+fn digit(b: u8, hexadecimal: bool) -> usize {
+    match b {
+        b'0'..=b'9' => (b - b'0') as usize,
+        b'A'..=b'F' => letter(b - b'A', hexadecimal),
+        b'a'..=b'f' => letter(b - b'a', hexadecimal),
+        _ => 16,
+    }
+}
+
+// The digit that the letter number i writes, from 0 for A; 16 where letters write none.
+fn letter(i: u8, hexadecimal: bool) -> usize {
+    if hexadecimal { i as usize + 10 } else { 16 }
+}
