@@ -9,6 +9,7 @@ use Rattle.sim0mq.specs.Codes.{boolean}
 use Rattle.sim0mq.specs.Field.{Field, after}
 use Rattle.sim0mq.specs.Header as H
 use Rattle.sim0mq.specs.Header.{magicBytes, idCodes, numberCodes, literal, frame, status, declared, frameOf, among}
+use Rattle.sim0mq.specs.declared.Refusal.{Refusal}
 use Rattle.payload.specs.Items.{seen}
 use Rattle.header.specs.declared.Frame.{Frame}
 use Rattle.header.specs.declared.Answer as A
@@ -77,3 +78,7 @@ shown f = record { place = f .place; code = f .code }
 abbrev pub told : List Frame → Answer H.Header → A.Answer
 told frames (fine h) = record { said = Accepted (record { fields = h .fields; next = h .next }); frames = map framed (h .frames) }
 told frames (refused k p) = record { said = Refused (record { number = k; place = p }); frames = frames }
+
+-- A refusal of the code, as an answer of the definitions.
+abbrev pub refusedAs : Refusal → Answer H.Header
+refusedAs r = refused (r .number) (r .place)

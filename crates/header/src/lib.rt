@@ -3,7 +3,7 @@ ghost use mathlib.Core.Path.{_≡_};
 ghost use Rattle.sim0mq.specs.Header.{among as amongOf, digit as digitOf, magic as magicOf, frame as frameOf, status as statusOf, header as headerOf};
 ghost use Rattle.sim0mq.specs.Views.{judged};
 ghost use Rattle.payload.specs.Items.{fielded};
-ghost use Rattle.header.specs.Frames.{literalEnd, editionEnd, NoBoolean, nthFrame, counted, declaredNumber, headerRest, told};
+ghost use Rattle.header.specs.Frames.{literalEnd, editionEnd, NoBoolean, nthFrame, counted, declaredNumber, headerRest, refusedAs, told};
 use payload::fields::Field;
 use payload::fields::Fielded;
 use payload::fields::outline;
@@ -219,6 +219,16 @@ fn nth(s: &[u8], k: usize, at: usize) -> Fielded
     status(s, at)
 }
 
+// A refusal, with the frames that went in.
+fn refused(r: Refusal, frames: [Frame; 8]) -> Answer
+    ensures { λ a. ⌜ a ≡ told frames (refusedAs r) ⌝ }
+{
+    Answer {
+        said: Said::Refused(r),
+        frames: frames,
+    }
+}
+
 // The frames after frame 0, which ends at `start`.
 fn rest(s: &[u8], frames: [Frame; 8], start: usize) -> Answer
     ensures { λ r. ⌜ r ≡ told frames (headerRest (now (s .entry)) start) ⌝ }
@@ -230,10 +240,7 @@ fn rest(s: &[u8], frames: [Frame; 8], start: usize) -> Answer
     while k < 7 {
         match nth(s, k, at) {
             Fielded::Refused(r) => {
-                return Answer {
-                    said: Said::Refused(r),
-                    frames: frames,
-                };
+                return refused(r, frames);
             }
             Fielded::Accepted(f) => {
                 fs[k] = Frame {
@@ -246,10 +253,7 @@ fn rest(s: &[u8], frames: [Frame; 8], start: usize) -> Answer
         k += 1;
     }
     match declared(s, at) {
-        Counted::Refused(r) => Answer {
-            said: Said::Refused(r),
-            frames: frames,
-        },
+        Counted::Refused(r) => refused(r, frames),
         Counted::Accepted(c) => {
             let f = c.field;
             fs[7] = Frame {
@@ -272,10 +276,7 @@ pub fn header(s: &[u8], frames: [Frame; 8]) -> Answer
     ensures { λ r. ⌜ r ≡ told frames (headerOf (now (s .entry))) ⌝ }
 {
     match magic(s) {
-        Judged::Refused(r) => Answer {
-            said: Said::Refused(r),
-            frames: frames,
-        },
+        Judged::Refused(r) => refused(r, frames),
         Judged::Accepted(at) => rest(s, frames, at),
     }
 }

@@ -10,13 +10,13 @@ use lib.ListN.{length, getD, List·getD-eq-default}
 use lib.Dec.{leb, lit<}
 use borrow.Author.Tests.{leb-true, leb-false, le-leb, lt-leb, lt-ltb, le-ltb}
 use Rattle.sim0mq.specs.Answer.{Answer, fine, refused, _>>=_, need, byte, big, notNegative}
-use Rattle.sim0mq.specs.Codes.{codeKnown, countRow, markRow, widthRow, countsOf, markingOf, widthOf, boolean}
+use Rattle.sim0mq.specs.Codes.{codeKnown, countRow, widthRow, countsOf, widthOf, boolean}
 use Rattle.sim0mq.specs.Mark.{marks}
 use Rattle.sim0mq.specs.Field.{count, counts, markCount, Head, headOf, headRest, head, booleans, booleansOf, outline}
 use Rattle.sim0mq.specs.declared.Judged.{Judged}
 use Rattle.sim0mq.specs.declared.Judged.the-variants.{Accepted, Refused}
 use Rattle.sim0mq.specs.Views.{judged}
-use Rattle.payload.specs.Items.{Below, numberAt, sizeAt, booleansEnd, valuesEnd}
+use Rattle.payload.specs.Items.{askedFor, Below, numberAt, sizeAt, booleansEnd, valuesEnd}
 use Rattle.sim0mq.proofs.Answers.{not-fine, fine-eq, needed-bind}
 use Rattle.sim0mq.proofs.Rows.{allPass, pass-at}
 
@@ -197,10 +197,9 @@ module _ (s : List ℕ) (at c : ℕ) (there : at < length s) (is : c ≡ byte s 
     head-asks : head s at ≡ (counts s k (at + 1) >>= (λ r. fine (headOf c r)))
     head-asks = rw asks (head-counts known)
 
-    pub head-none : (m : ℕ) → k ≡ 0 → m ≡ markCount (getD markRow c 0) 1
-        → head s at ≡ fine (record { code = c; values = 1; marked = m; next = at + 1 })
-    unfolding counts markingOf
-    head-none m e q = head-asks ∙ simp (e, q)
+    pub head-none : k ≡ 0 → askedFor c 1 1 (at + 1) ≡ head s at
+    unfolding counts
+    head-none e = sym (head-asks ∙ simp e)
 
     pub head-stop : (n p : ℕ) → (k ≡ 0 → ⊥) → count s (at + 1) ≡ refused n p → head s at ≡ refused n p
     unfolding counts
@@ -211,10 +210,9 @@ module _ (s : List ℕ) (at c : ℕ) (there : at < length s) (is : c ≡ byte s 
         go (suc zero) h = simp q
         go (suc (suc k)) h = simp q
 
-    pub head-one : (n m : ℕ) → k ≡ 1 → count s (at + 1) ≡ fine n → m ≡ markCount (getD markRow c 0) 1
-        → head s at ≡ fine (record { code = c; values = n; marked = m; next = at + 1 + 4 })
-    unfolding counts markingOf
-    head-one n m e a q = head-asks ∙ simp (e, a, q)
+    pub head-one : (n : ℕ) → k ≡ 1 → count s (at + 1) ≡ fine n → askedFor c n 1 (at + 1 + 4) ≡ head s at
+    unfolding counts
+    head-one n e a = sym (head-asks ∙ simp (e, a))
 
     pub head-second : (r n p : ℕ) → (k ≡ 0 → ⊥) → (k ≡ 1 → ⊥) → count s (at + 1) ≡ fine r → count s (at + 1 + 4) ≡ refused n p
         → head s at ≡ refused n p
@@ -226,16 +224,15 @@ module _ (s : List ℕ) (at c : ℕ) (there : at < length s) (is : c ≡ byte s 
         go (suc zero) x y = absurd (y refl)
         go (suc (suc k)) x y = simp (a, b)
 
-    pub head-two : (r l v m : ℕ) → (k ≡ 0 → ⊥) → (k ≡ 1 → ⊥) → count s (at + 1) ≡ fine r → count s (at + 1 + 4) ≡ fine l → v ≡ r * l
-        → m ≡ markCount (getD markRow c 0) l → head s at ≡ fine (record { code = c; values = v; marked = m; next = at + 1 + 8 })
-    unfolding counts markingOf
-    head-two r l v m x y a b e q = head-asks ∙ go k x y
+    pub head-two : (r l v : ℕ) → (k ≡ 0 → ⊥) → (k ≡ 1 → ⊥) → count s (at + 1) ≡ fine r → count s (at + 1 + 4) ≡ fine l → v ≡ r * l
+        → askedFor c v l (at + 1 + 8) ≡ head s at
+    unfolding counts
+    head-two r l v x y a b e = sym (head-asks ∙ go k x y)
       where
-        go : (k : ℕ) → (k ≡ 0 → ⊥) → (k ≡ 1 → ⊥)
-            → (counts s k (at + 1) >>= (λ r. fine (headOf c r))) ≡ fine (record { code = c; values = v; marked = m; next = at + 1 + 8 })
+        go : (k : ℕ) → (k ≡ 0 → ⊥) → (k ≡ 1 → ⊥) → (counts s k (at + 1) >>= (λ r. fine (headOf c r))) ≡ askedFor c v l (at + 1 + 8)
         go zero x y = absurd (x refl)
         go (suc zero) x y = absurd (y refl)
-        go (suc (suc k)) x y = simp (a, b, e, q)
+        go (suc (suc k)) x y = simp (a, b, e)
 
 -- outlines
 after-need : {A B : Type 0} (a : Answer (Unit {0})) (x : A) (y : B) {k p : ℕ} → (a >>= (λ there. fine x)) ≡ refused k p

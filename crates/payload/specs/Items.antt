@@ -29,6 +29,10 @@ abbrev pub fielded : Fielded → Answer F.Field
 fielded (Fielded·Accepted f) = fine (seen f)
 fielded (Fielded·Refused r) = refused (r .number) (r .place)
 
+-- What a field of code c asks for whose counts say v values and k columns and end at p.
+abbrev pub askedFor : ℕ → ℕ → ℕ → ℕ → Answer F.Head
+askedFor c v k p = fine (F.headOf c (record { values = v; columns = k; next = p }))
+
 -- An accepted number is below m.
 abbrev pub Below : ℕ → Judged → Type 0
 Below m (Accepted n) = n < m

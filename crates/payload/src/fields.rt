@@ -6,7 +6,7 @@ ghost use lib.Dec.{leb};
 ghost use Rattle.sim0mq.specs.Codes.{boolean as booleanOf};
 ghost use Rattle.sim0mq.specs.Field.{markCount, head as headOf, outline as outlineOf};
 ghost use Rattle.sim0mq.specs.Views.{judged};
-ghost use Rattle.payload.specs.Items.{headed, fielded, sizeAt, booleansEnd, valuesEnd};
+ghost use Rattle.payload.specs.Items.{headed, askedFor, fielded, sizeAt, booleansEnd, valuesEnd};
 use crate::marks::marks;
 use crate::numbers::count;
 use crate::numbers::wide;
@@ -66,6 +66,20 @@ fn product(r: usize, c: usize) -> usize
     r * c
 }
 
+// What a field of this code asks for whose counts say so many values and columns and end at `next`.
+fn asking(code: usize, values: usize, columns: usize, next: usize) -> Headed
+    requires { ⌜ code ≤ 32 ⌝ }
+    ensures { λ r. ⌜ headed r ≡ askedFor code values columns next ⌝ }
+{
+    let marked = mark_count(MARKS[code], columns);
+    Headed::Accepted(Asked {
+        code,
+        values,
+        marked,
+        next,
+    })
+}
+
 // The code and the counts of the field at `at`.
 pub fn head(s: &[u8], at: usize) -> Headed
     ensures { λ r. ⌜ headed r ≡ headOf (now (s .entry)) at ⌝ }
@@ -85,40 +99,18 @@ pub fn head(s: &[u8], at: usize) -> Headed
     }
     let p = at + 1;
     let k = COUNTS[code];
-    let m = MARKS[code];
     if k == 0 {
-        let marked = mark_count(m, 1);
-        return Headed::Accepted(Asked {
-            code,
-            values: 1,
-            marked,
-            next: p,
-        });
+        return asking(code, 1, 1, p);
     }
     match count(s, p) {
         Judged::Refused(r) => Headed::Refused(r),
         Judged::Accepted(n) => {
             if k == 1 {
-                let marked = mark_count(m, 1);
-                return Headed::Accepted(Asked {
-                    code,
-                    values: n,
-                    marked,
-                    next: p + 4,
-                });
+                return asking(code, n, 1, p + 4);
             }
             match count(s, p + 4) {
                 Judged::Refused(r) => Headed::Refused(r),
-                Judged::Accepted(c) => {
-                    let marked = mark_count(m, c);
-                    let values = product(n, c);
-                    Headed::Accepted(Asked {
-                        code,
-                        values,
-                        marked,
-                        next: p + 8,
-                    })
-                }
+                Judged::Accepted(c) => asking(code, product(n, c), c, p + 8),
             }
         }
     }

@@ -34,31 +34,21 @@ pub fn payload(s: &[u8], n: usize) -> Judged
             break 'fields Judged::Accepted(steps);
         }
         match head(s, at) {
-            Headed::Refused(r) => {
-                break 'fields Judged::Refused(r);
-            }
+            Headed::Refused(r) => break 'fields Judged::Refused(r),
             Headed::Accepted(h) => {
                 let mut marked = h.marked;
                 let mut p = h.next;
                 while 0 < marked {
                     match mark(s, p) {
-                        Judged::Refused(r) => {
-                            break 'fields Judged::Refused(r);
-                        }
-                        Judged::Accepted(q) => {
-                            p = q;
-                        }
+                        Judged::Refused(of_mark) => break 'fields Judged::Refused(of_mark),
+                        Judged::Accepted(q) => p = q,
                     }
                     marked -= 1;
                     steps += 1;
                 }
                 match values(s, h.code, h.values, p) {
-                    Judged::Refused(r) => {
-                        break 'fields Judged::Refused(r);
-                    }
-                    Judged::Accepted(e) => {
-                        at = e;
-                    }
+                    Judged::Refused(of_values) => break 'fields Judged::Refused(of_values),
+                    Judged::Accepted(e) => at = e,
                 }
                 left -= 1;
                 steps += 1;

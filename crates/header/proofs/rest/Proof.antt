@@ -44,10 +44,14 @@ nth-requires c κs = search needs
 enum-known-r : tie.Need-enum-known-r Inv-loop μ-loop
 enum-known-r c = search needs
 
+refused-requires : tie.Need-refused-requires Inv-loop μ-loop
+refused-requires c κs = search needs
+
 returns : tie.Need-returns Inv-loop μ-loop
 returns c =
-    let taken = sym (c .before .before .before .nth .ensures) ∙ ap fielded (c .before .r .given .1) in
-    sym (ap (told (c .before .before .before .before .before .before .before .args .frames)) (c .before .before .before .before .before .loop .inv .0 ∙ frames-stop _ _ _ _ _ (7 - (c .before .before .before .before .before .loop .k + 1)) _ _ (omega arith) taken))
+    let stopped = sym (c .before .before .before .before .nth .ensures) ∙ ap fielded (c .before .before .r .given .1) in
+    c .refused .ensures
+    ∙ sym (ap (told (c .before .before .before .before .before .before .before .before .args .frames)) (c .before .before .before .before .before .before .loop .inv .0 ∙ frames-stop _ _ _ _ _ (7 - (c .before .before .before .before .before .before .loop .k + 1)) _ _ (omega arith) stopped))
 
 enum-known-f : tie.Need-enum-known-f Inv-loop μ-loop
 enum-known-f c = search needs
@@ -89,20 +93,24 @@ declared-requires c κs = search needs
 enum-known-r-2 : tie.Need-enum-known-r-2 Inv-loop μ-loop
 enum-known-r-2 c = search needs
 
+refused-requires-2 : tie.Need-refused-requires-2 Inv-loop μ-loop
+refused-requires-2 c κs = search needs
+
 enum-known-c : tie.Need-enum-known-c Inv-loop μ-loop
 enum-known-c c = search needs
 
 array-set-from-fs-3 : tie.Need-array-set-from-fs-3 Inv-loop μ-loop
 array-set-from-fs-3 c = search needs
 
-add-t28 : tie.Need-add-t28 Inv-loop μ-loop
+add-t26 : tie.Need-add-t26 Inv-loop μ-loop
 unfolding after
-add-t28 c = let g = declared-goes _ _ _ (sym (c .before .before .before .before .before .declared .ensures) ∙ ap counted (c .before .before .before .c .given .1)) in omega arith
+add-t26 c = let g = declared-goes _ _ _ (sym (c .before .before .before .before .before .declared .ensures) ∙ ap counted (c .before .before .before .c .given .1)) in omega arith
 
 returns-2 : tie.Need-returns-2 Inv-loop μ-loop
 returns-2 c =
-    let taken = sym (c .before .before .before .declared .ensures) ∙ ap counted (c .before .r2 .given .1) in
-    sym (ap (told (c .before .before .before .before .before .before .before .args .frames)) (c .before .before .before .before .before .loop .inv .0 ∙ frames-last-stop _ _ _ _ _ _ _ (omega arith) taken))
+    let stopped = sym (c .before .before .before .before .declared .ensures) ∙ ap counted (c .before .before .r2 .given .1) in
+    c .refused2 .ensures
+    ∙ sym (ap (told (c .before .before .before .before .before .before .before .before .args .frames)) (c .before .before .before .before .before .before .loop .inv .0 ∙ frames-last-stop _ _ _ _ _ _ _ (omega arith) stopped))
 
 returns-3 : tie.Need-returns-3 Inv-loop μ-loop
 unfolding after
@@ -130,6 +138,7 @@ rest-spec =
     loop-holds
     nth-requires
     enum-known-r
+    refused-requires
     returns
     enum-known-f
     mul-fs
@@ -140,8 +149,9 @@ rest-spec =
     loop-again
     declared-requires
     enum-known-r-2
+    refused-requires-2
     enum-known-c
     array-set-from-fs-3
-    add-t28
+    add-t26
     returns-2
     returns-3)

@@ -47,8 +47,8 @@ loop-holds c =
 mark-requires : tie.Need-mark-requires Inv-loop μ-loop Inv-fields μ-fields
 mark-requires c κs = search needs
 
-enum-known-r-2 : tie.Need-enum-known-r-2 Inv-loop μ-loop Inv-fields μ-fields
-enum-known-r-2 c = search needs
+enum-known-of-mark : tie.Need-enum-known-of-mark Inv-loop μ-loop Inv-fields μ-fields
+enum-known-of-mark c = search needs
 
 enum-known-q : tie.Need-enum-known-q Inv-loop μ-loop Inv-fields μ-fields
 enum-known-q c = search needs
@@ -73,8 +73,8 @@ loop-again c =
 values-requires : tie.Need-values-requires Inv-loop μ-loop Inv-fields μ-fields
 values-requires c κs = search needs
 
-enum-known-r-3 : tie.Need-enum-known-r-3 Inv-loop μ-loop Inv-fields μ-fields
-enum-known-r-3 c = search needs
+enum-known-of-values : tie.Need-enum-known-of-values Inv-loop μ-loop Inv-fields μ-fields
+enum-known-of-values c = search needs
 
 enum-known-e : tie.Need-enum-known-e Inv-loop μ-loop Inv-fields μ-fields
 enum-known-e c = search needs
@@ -112,14 +112,14 @@ returns-3 c =
 returns-4 : tie.Need-returns-4 Inv-loop μ-loop Inv-fields μ-fields
 returns-4 c =
     let taken = sym (c .before .before .before .before .before .before .before .before .before .head .ensures) ∙ ap headed (c .before .before .before .before .before .before .before .h .given .1) in
-    let stopped = c .before .before .before .before .before .loop .inv .0 ∙ marks-stop _ _ _ _ _ (omega arith) (sym (c .before .before .before .mark .ensures) ∙ ap judged (c .before .r2 .given .1)) in
+    let stopped = c .before .before .before .before .before .loop .inv .0 ∙ marks-stop _ _ _ _ _ (omega arith) (sym (c .before .before .before .mark .ensures) ∙ ap judged (c .before .of-mark .given .1)) in
     (sym (c .before .before .before .before .before .before .before .before .before .before .before .fields .inv .0 ∙ steps-mark-stop _ _ _ _ taken _ _ _ (c .before .before .before .before .before .before .before .before .before .before .if1 .left) stopped), tt)
 
 returns-5 : tie.Need-returns-5 Inv-loop μ-loop Inv-fields μ-fields
 returns-5 c =
     let taken = sym (c .before .before .before .before .before .before .before .before .before .head .ensures) ∙ ap headed (c .before .before .before .before .before .before .before .h .given .1) in
     let marked = c .before .before .before .before .before .loop .inv .0 ∙ marks-done _ _ _ (omega arith) in
-    let stopped = sym (c .before .before .before .values .ensures) ∙ ap judged (c .before .r3 .given .1) in
+    let stopped = sym (c .before .before .before .values .ensures) ∙ ap judged (c .before .of-values .given .1) in
     (sym (c .before .before .before .before .before .before .before .before .before .before .before .fields .inv .0 ∙ steps-values-stop _ _ _ _ taken _ marked _ _ _ (c .before .before .before .before .before .before .before .before .before .before .if1 .left) stopped), tt)
 
 pub payload-spec : {M : Type 1} → statement M
@@ -136,14 +136,14 @@ payload-spec =
     enum-known-h
     loop-holds
     mark-requires
-    enum-known-r-2
+    enum-known-of-mark
     enum-known-q
     sub-marked
     add-steps
     loop-less
     loop-again
     values-requires
-    enum-known-r-3
+    enum-known-of-values
     enum-known-e
     sub-left
     add-steps-2

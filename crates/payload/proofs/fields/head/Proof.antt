@@ -30,17 +30,11 @@ mul-k c = search needs
 array-read-k : tie.Need-array-read-k
 array-read-k c = search needs
 
-mul-m : tie.Need-mul-m
-mul-m c = search needs
-
-array-read-m : tie.Need-array-read-m
-array-read-m c = search needs
-
-mark-count-requires : tie.Need-mark-count-requires
-mark-count-requires c κs = search needs
+asking-requires : tie.Need-asking-requires
+asking-requires c κs = search needs
 
 returns-3 : tie.Need-returns-3
-returns-3 c = sym (head-none _ _ (c .before .before .before .wide .result) (omega arith) (c .before .before .before .wide .ensures .0) (omega arith) _ refl _ (c .before .if3 .taken) (c .mark-count .ensures))
+returns-3 c = c .asking .ensures ∙ head-none _ _ (c .before .before .before .wide .result) (omega arith) (c .before .before .before .wide .ensures .0) (omega arith) _ refl (c .before .if3 .taken)
 
 count-requires : tie.Need-count-requires
 count-requires c κs = search needs
@@ -51,17 +45,17 @@ enum-known-r c = search needs
 enum-known-n : tie.Need-enum-known-n
 enum-known-n c = search needs
 
-mark-count-requires-2 : tie.Need-mark-count-requires-2
-mark-count-requires-2 c κs = search needs
+add-asking : tie.Need-add-asking
+add-asking c = search needs
 
-add-t33 : tie.Need-add-t33
-add-t33 c = search needs
+asking-requires-2 : tie.Need-asking-requires-2
+asking-requires-2 c κs = search needs
 
 returns-4 : tie.Need-returns-4
 returns-4 c =
-    sym
-    (head-one _ _ (c .before .before .before .before .before .before .before .before .wide .result) (omega arith) (c .before .before .before .before .before .before .before .before .wide .ensures .0) (omega arith) _ refl _ _ (c .before .if4 .taken)
-    (sym (c .before .before .before .before .before .count .ensures .0) ∙ ap judged (c .before .before .before .n .given .1)) (c .mark-count2 .ensures))
+    let first = sym (c .before .before .before .before .before .count .ensures .0) ∙ ap judged (c .before .before .before .n .given .1) in
+    c .asking2 .ensures
+    ∙ head-one _ _ (c .before .before .before .before .before .before .before .before .wide .result) (omega arith) (c .before .before .before .before .before .before .before .before .wide .ensures .0) (omega arith) _ refl _ (c .before .if4 .taken) first
 
 add-count : tie.Need-add-count
 add-count c = search needs
@@ -75,36 +69,38 @@ enum-known-r-2 c = search needs
 enum-known-c : tie.Need-enum-known-c
 enum-known-c c = search needs
 
-mark-count-requires-3 : tie.Need-mark-count-requires-3
-mark-count-requires-3 c κs = search needs
-
 product-requires : tie.Need-product-requires
 product-requires c κs = (
-  subst (λ (x : Judged). Below 4294967296 x) (c .before .before .before .before .before .before .before .n .given .1) (c .before .before .before .before .before .before .before .before .before .count .ensures .1),
-  subst (λ (x : Judged). Below 4294967296 x) (c .before .before .c .given .1) (c .before .before .before .before .count2 .ensures .1),
+  subst (λ (x : Judged). Below 4294967296 x) (c .before .before .before .before .before .before .n .given .1) (c .before .before .before .before .before .before .before .before .count .ensures .1),
+  subst (λ (x : Judged). Below 4294967296 x) (c .before .c .given .1) (c .before .before .before .count2 .ensures .1),
 )
 
-add-t38 : tie.Need-add-t38
-add-t38 c = search needs
+add-asking-2 : tie.Need-add-asking-2
+add-asking-2 c = search needs
+
+asking-requires-3 : tie.Need-asking-requires-3
+asking-requires-3 c κs = search needs
 
 returns-5 : tie.Need-returns-5
 returns-5 c =
-    sym
-    (head-stop _ _ (c .before .before .before .before .before .before .wide .result) (omega arith) (c .before .before .before .before .before .before .wide .ensures .0) (omega arith) _ refl _ _ (c .before .before .before .before .if3 .left)
-    (sym (c .before .before .before .count .ensures .0) ∙ ap judged (c .before .r .given .1)))
+    let stopped = sym (c .before .before .before .count .ensures .0) ∙ ap judged (c .before .r .given .1) in
+    sym (head-stop _ _ (c .before .before .before .before .before .before .wide .result) (omega arith) (c .before .before .before .before .before .before .wide .ensures .0) (omega arith) _ refl _ _ (c .before .before .before .before .if3 .left) stopped)
 
 returns-6 : tie.Need-returns-6
 returns-6 c =
+    let first = sym (c .before .before .before .before .before .before .before .before .count .ensures .0) ∙ ap judged (c .before .before .before .before .before .before .n .given .1) in
+    let stopped = sym (c .before .before .before .count2 .ensures .0) ∙ ap judged (c .before .r2 .given .1) in
     sym
     (head-second _ _ (c .before .before .before .before .before .before .before .before .before .before .before .wide .result) (omega arith) (c .before .before .before .before .before .before .before .before .before .before .before .wide .ensures .0) (omega arith) _ refl _ _ _ (c .before .before .before .before .before .before .before .before .before .if3 .left) (c .before .before .before .before .if4 .left)
-    (sym (c .before .before .before .before .before .before .before .before .count .ensures .0) ∙ ap judged (c .before .before .before .before .before .before .n .given .1)) (sym (c .before .before .before .count2 .ensures .0) ∙ ap judged (c .before .r2 .given .1)))
+    first stopped)
 
 returns-7 : tie.Need-returns-7
 returns-7 c =
-    sym
-    (head-two _ _ (c .before .before .before .before .before .before .before .before .before .before .before .before .before .wide .result) (omega arith) (c .before .before .before .before .before .before .before .before .before .before .before .before .before .wide .ensures .0) (omega arith) _ refl _ _ _ _ (c .before .before .before .before .before .before .before .before .before .before .before .if3 .left) (c .before .before .before .before .before .before .if4 .left)
-    (sym (c .before .before .before .before .before .before .before .before .before .before .count .ensures .0) ∙ ap judged (c .before .before .before .before .before .before .before .before .n .given .1)) (sym (c .before .before .before .before .before .count2 .ensures .0) ∙ ap judged (c .before .before .before .c .given .1))
-    (c .product .ensures) (c .before .mark-count3 .ensures))
+    let first = sym (c .before .before .before .before .before .before .before .before .before .before .count .ensures .0) ∙ ap judged (c .before .before .before .before .before .before .before .before .n .given .1) in
+    let second = sym (c .before .before .before .before .before .count2 .ensures .0) ∙ ap judged (c .before .before .before .c .given .1) in
+    c .asking3 .ensures
+    ∙ head-two _ _ (c .before .before .before .before .before .before .before .before .before .before .before .before .before .wide .result) (omega arith) (c .before .before .before .before .before .before .before .before .before .before .before .before .before .wide .ensures .0) (omega arith) _ refl _ _ _ (c .before .before .before .before .before .before .before .before .before .before .before .if3 .left) (c .before .before .before .before .before .before .if4 .left) first
+    second (c .before .product .ensures)
 
 pub head-spec : {M : Type 1} → statement M
 head-spec =
@@ -117,23 +113,21 @@ head-spec =
     add-p
     mul-k
     array-read-k
-    mul-m
-    array-read-m
-    mark-count-requires
+    asking-requires
     returns-3
     count-requires
     enum-known-r
     enum-known-n
-    mark-count-requires-2
-    add-t33
+    add-asking
+    asking-requires-2
     returns-4
     add-count
     count-requires-2
     enum-known-r-2
     enum-known-c
-    mark-count-requires-3
     product-requires
-    add-t38
+    add-asking-2
+    asking-requires-3
     returns-5
     returns-6
     returns-7)
