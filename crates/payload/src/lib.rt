@@ -21,8 +21,8 @@ pub fn payload(s: &[u8], n: usize) -> Judged
     ensures { λ r. ⌜ (judged r ≡ payloadSteps (now (s .entry)) n) × Below (length (now (s .entry)) + 1) r ⌝ }
 {
     let mut left = n;
-    let mut at = 0;
-    let mut steps = 0;
+    let mut at: usize = 0;
+    let mut steps: usize = 0;
     'fields: loop {
         if left == 0 {
             if at < s.len() {

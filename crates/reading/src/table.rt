@@ -29,8 +29,8 @@ pub fn fill(s: &[u8], base: usize, n: usize, table: &mut [u32])
     ensures { λ r. ⌜ now (table .exit) ≡ filled (now (s .entry)) base n (now (table .entry)) ⌝ }
 {
     let mut left = n;
-    let mut at = 0;
-    let mut i = 0;
+    let mut at: usize = 0;
+    let mut i: usize = 0;
     while 0 < left {
         match outline(s, at) {
             Fielded::Refused(_) => {
