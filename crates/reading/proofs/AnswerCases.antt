@@ -174,7 +174,7 @@ module _ (lent : M.Lent) (s : List ℕ) where
       whole-judged e = rest-judged s h a ∙ ap (judgement s) (sym (whole-rest e))
 
 -- reading is the whole message without its header's end
-reading-whole : (lent : M.Lent) (s : List ℕ) → reading lent s ≡ (whole lent s >>= (λ w. fine (readingOf s (w .head) (w .fields))))
+pub reading-whole : (lent : M.Lent) (s : List ℕ) → reading lent s ≡ (whole lent s >>= (λ w. fine (readingOf s (w .head) (w .fields))))
 unfolding reading message messageRest whole wholeRest
 reading-whole lent s = by-length (leb (length s) limit) refl
   where
@@ -234,7 +234,7 @@ module _ (lent : M.Lent) (s : List ℕ) where
       let refusal : reading lent s ≡ refused k p = reading-whole lent s ∙ simp e in sym (ap (tableAfter t) refusal)
 
   module _ (w : Whole) (e : whole lent s ≡ fine w) where
-    whole-parts : (length s ≤ limit) × (header s ≡ fine (w .head)) × (enough lent (w .head .fields) ≡ true)
+    pub whole-parts : (length s ≤ limit) × (header s ≡ fine (w .head)) × (enough lent (w .head .fields) ≡ true)
         × (payload (drop (w .head .next) s) (w .head .fields) ≡ fine (w .fields))
     unfolding whole wholeRest
     whole-parts =
@@ -258,7 +258,7 @@ module _ (lent : M.Lent) (s : List ℕ) where
 
   -- with the numbers that the code has of it
   module _ (w : Whole) (e : whole lent s ≡ fine w) (next n : ℕ) (p : next ≡ w .head .next) (q : length (w .fields) ≡ n) where
-    part-accepted : payload (drop next s) n ≡ fine (w .fields)
+    pub part-accepted : payload (drop next s) n ≡ fine (w .fields)
     part-accepted =
         let count : n ≡ w .head .fields = sym q ∙ whole-many w e in
         rw (p, count) (whole-parts w e .3)

@@ -114,7 +114,7 @@ module _ (s : List ℕ) (at : ℕ) where
       )
 
   -- which field that is, is told by its outline
-  fields-next : (n m : ℕ) (f : Field) → n ≡ m + 1 → payloadFrom s n at ≡ fine (taken (payloadFrom s n at)) → outline s at ≡ fine f
+  pub fields-next : (n m : ℕ) (f : Field) → n ≡ m + 1 → payloadFrom s n at ≡ fine (taken (payloadFrom s n at)) → outline s at ≡ fine f
       → (taken (payloadFrom s n at) ≡ f ∷ taken (payloadFrom s m (after f)))
       × (payloadFrom s m (after f) ≡ fine (taken (payloadFrom s m (after f))))
   fields-next n m f e q o =

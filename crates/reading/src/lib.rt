@@ -34,16 +34,16 @@ pub struct Answer {
 }
 
 // What is lent beside the message: no table, or a table of so many numbers.
-enum Lent {
+pub enum Lent {
     NoTable,
     Table(usize),
 }
 
 // An answer, with the place where the payload begins.
-struct Judgement {
-    said: Reading,
-    frames: [Frame; 8],
-    next: usize,
+pub struct Judgement {
+    pub said: Reading,
+    pub frames: [Frame; 8],
+    pub next: usize,
 }
 
 // The most bytes that a message has.
@@ -71,7 +71,7 @@ fn refuse(number: u32, place: usize) -> Judgement
 }
 
 // The message, judged whole.
-fn judged(message: &[u8], lent: Lent) -> Judgement
+pub fn judged(message: &[u8], lent: Lent) -> Judgement
     ensures { λ r. ⌜ r ≡ judgement (now (message .entry)) (whole (lentOf lent) (now (message .entry))) ⌝ }
 {
     if LIMIT < message.len() {

@@ -1,0 +1,146 @@
+-- Finding field k: from a place on, the field asked for is the next one, or stands as many fields further as are left to pass.
+use Prim.Native.Nat.{ℕ, zero, suc, _+_, _-_, _≤_, _<_}
+use mathlib.Core.Path.{_≡_, refl, ap, sym, _∙_, subst}
+use mathlib.Core.List.{List, [], _∷_, map}
+use native.Mathlib.Omega.{arith}
+use native.Mathlib.Numerals.{add-one}
+use native.Mathlib.Nat.{not-suc-le-zero, le-of-suc-le-suc}
+use lib.ListN.{length, drop, length-drop, length-map}
+use Rattle.sim0mq.specs.Answer.{Answer, fine, refused}
+use Rattle.sim0mq.specs.Field.{Field, after, outline, field}
+use Rattle.sim0mq.specs.Payload.{payloadFrom, payload, moved}
+use Rattle.sim0mq.specs.Message.{limit, noTable, Reading, readingOf, reading}
+use Rattle.sim0mq.proofs.Answers.{guarded, bind-fine, fine-eq, not-fine}
+use Rattle.sim0mq.proofs.Refusals.{field-within}
+use lib.Dec.{leb}
+use Rattle.reading.specs.Rows.{taken}
+use Rattle.reading.proofs.RowCases.{fields-next}
+use Rattle.reading.specs.Answers.{Whole, whole}
+use Rattle.reading.proofs.AnswerCases.{reading-whole, whole-parts, part-accepted, next-within}
+use Rattle.asking.specs.Asking.{nth, asked, Findable, foundAt}
+
+-- field k of a list: the first, or one further on
+nth-first : (f : Field) (fs : List Field) (k : ℕ) → k ≡ 0 → fine f ≡ nth (f ∷ fs) k
+unfolding nth
+nth-first f fs k e = rw e
+
+nth-next : (f : Field) (fs : List Field) (k j : ℕ) → k ≡ j + 1 → nth (f ∷ fs) k ≡ nth fs j
+unfolding nth
+nth-next f fs k j e = rw (e, add-one j)
+
+-- at the beginning all of the fields are left
+pub find-start : (s : List ℕ) (base n k : ℕ) → payload s n ≡ fine (taken (payload s n))
+    → (foundAt s base n k ≡ nth (map (moved base) (taken (payloadFrom s (n - (k - k)) 0))) k)
+    × (payloadFrom s (n - (k - k)) 0 ≡ fine (taken (payloadFrom s (n - (k - k)) 0)))
+unfolding payload foundAt
+find-start s base n k accepted =
+    let e : n ≡ n - (k - k) = omega arith in
+    subst
+    (λ (m : ℕ).
+    (nth (map (moved base) (taken (payloadFrom s n 0))) k ≡ nth (map (moved base) (taken (payloadFrom s m 0))) k)
+    × (payloadFrom s m 0 ≡ fine (taken (payloadFrom s m 0))))
+    e (refl, accepted)
+
+module _ (s : List ℕ) (base : ℕ) (all : Answer Field) (m p at left : ℕ) (f : Field)
+    (whole : all ≡ nth (map (moved base) (taken (payloadFrom s m at))) left) (accepted : payloadFrom s m at ≡ fine (taken (payloadFrom s m at)))
+    (some : m ≡ p + 1) (outlined : outline s at ≡ fine f) where
+  pub find-turn : (j : ℕ) → left ≡ j + 1
+      → (all ≡ nth (map (moved base) (taken (payloadFrom s p (f .first + f .size)))) j)
+      × (payloadFrom s p (f .first + f .size) ≡ fine (taken (payloadFrom s p (f .first + f .size))))
+  unfolding after
+  find-turn j e =
+      let r = fields-next s at m p f some accepted outlined in
+      let rest = taken (payloadFrom s p (f .first + f .size)) in (
+        whole ∙ ap (λ (fs : List Field). nth (map (moved base) fs) left) (r .0) ∙ nth-next (moved base f) (map (moved base) rest) left j e,
+        r .1,
+      )
+
+  pub find-here : left ≡ 0 → fine (moved base f) ≡ all
+  unfolding after
+  find-here e =
+      let r = fields-next s at m p f some accepted outlined in
+      let rest = taken (payloadFrom s p (f .first + f .size)) in
+      nth-first (moved base f) (map (moved base) rest) left e ∙ sym (whole ∙ ap (λ (fs : List Field). nth (map (moved base) fs) left) (r .0))
+
+-- there is no field k where k fields are not passed
+nth-none : (fs : List Field) (k : ℕ) → length fs ≤ k → refused 16 0 ≡ nth fs k
+unfolding nth
+nth-none [] k h = refl
+nth-none (f ∷ fs) zero h = absurd (not-suc-le-zero h)
+nth-none (f ∷ fs) (suc k) h = nth-none fs k (le-of-suc-le-suc h)
+
+-- asking is reading, and then the field
+module _ (s : List ℕ) (k : ℕ) where
+  pub ask-refused : (n p : ℕ) → whole noTable s ≡ refused n p → refused n p ≡ asked s k
+  unfolding asked
+  ask-refused n p e = let refusal : reading noTable s ≡ refused n p = reading-whole noTable s ∙ simp e in sym (simp refusal)
+
+  module _ (w : Whole) (e : whole noTable s ≡ fine w) where
+    ask-nth : nth (map (moved (w .head .next)) (w .fields)) k ≡ asked s k
+    unfolding asked
+    ask-nth =
+        let found : reading noTable s ≡ fine (readingOf s (w .head) (w .fields)) = reading-whole noTable s ∙ simp e in sym (simp found)
+
+    pub ask-none : (n : ℕ) → length (w .fields) ≡ n → n ≤ k → refused 16 0 ≡ asked s k
+    ask-none n q h =
+        nth-none (map (moved (w .head .next)) (w .fields)) k (rw (length-map (w .fields) (moved (w .head .next)), q) h) ∙ ask-nth
+
+    pub ask-found : (part : List ℕ) (next n : ℕ) → next ≡ w .head .next → length (w .fields) ≡ n → part ≡ drop next s
+        → foundAt part next n k ≡ asked s k
+    unfolding foundAt
+    ask-found part next n p q d =
+        let accepted : payload part n ≡ fine (w .fields) = rw d (part-accepted noTable s w e next n p q) in
+        let taking : taken (payload part n) ≡ w .fields = ap taken accepted in
+        rw (taking, p) ask-nth
+
+    pub ask-findable : (part : List ℕ) (next n : ℕ) → next ≡ w .head .next → length (w .fields) ≡ n → part ≡ drop next s → k < n
+        → Findable part next n k
+    unfolding limit
+    ask-findable part next n p q d h =
+        let accepted : payload part n ≡ fine (w .fields) = rw d (part-accepted noTable s w e next n p q) in
+        let within = next-within noTable s w e in
+        let short = whole-parts noTable s w e .0 in
+        record {
+          accepted = accepted ∙ ap fine (ap taken (sym accepted));
+          some = h;
+          short = rw d (omega (arith, length-drop next s));
+        }
+
+-- a field of an accepted payload lies in it
+nth-within : (s : List ℕ) (n at : ℕ) (fs : List Field) (k : ℕ) (f : Field) → payloadFrom s n at ≡ fine fs → nth fs k ≡ fine f
+    → f .first + f .size ≤ length s
+unfolding payloadFrom nth after
+nth-within s zero at fs k f q e =
+    let g = guarded (leb (length s) at) _ _ _ q in
+    let none : refused 16 0 ≡ fine f = ap (λ (l : List Field). nth l k) (fine-eq (g .1)) ∙ e in
+    absurd (not-fine none)
+nth-within s (suc n) at fs k f q e =
+    let a = bind-fine (field s at) _ q in
+    let b = bind-fine (payloadFrom s n (a .0 .first + a .0 .size)) _ (a .2) in
+    let here : nth (a .0 ∷ b .0) k ≡ fine f = ap (λ (l : List Field). nth l k) (fine-eq (b .2)) ∙ e in
+    at-place k (a .0) (b .0) (field-within s at (a .0) (a .1) .1) (λ j r. nth-within s n (a .0 .first + a .0 .size) (b .0) j f (b .1) r) here
+  where
+    at-place : (k : ℕ) (g : Field) (gs : List Field) → g .first + g .size ≤ length s
+        → ((j : ℕ) → nth gs j ≡ fine f → f .first + f .size ≤ length s) → nth (g ∷ gs) k ≡ fine f → f .first + f .size ≤ length s
+    at-place zero g gs h later e = subst (λ (x : Field). x .first + x .size ≤ length s) (fine-eq e) h
+    at-place (suc j) g gs h later e = later j e
+
+nth-moved : (b : ℕ) (fs : List Field) (k : ℕ) (g : Field) → nth (map (moved b) fs) k ≡ fine g → (f : Field) × (nth fs k ≡ fine f) × (moved b f ≡ g)
+unfolding nth
+nth-moved b [] k g e = absurd (not-fine e)
+nth-moved b (f ∷ fs) zero g e = (f, refl, fine-eq e)
+nth-moved b (f ∷ fs) (suc k) g e = nth-moved b fs k g e
+
+-- the field that was asked for lies in the message
+pub asked-within : (s : List ℕ) (k : ℕ) (f : Field) → asked s k ≡ fine f → f .first + f .size ≤ length s
+unfolding asked payload moved
+asked-within s k f q =
+    let a = bind-fine (reading noTable s) _ q in
+    let b = bind-fine (whole noTable s) _ (sym (reading-whole noTable s) ∙ a .1) in
+    let w = b .0 in
+    let parts = whole-parts noTable s w (b .1) in
+    let fields : nth (map (moved (w .head .next)) (w .fields)) k ≡ fine f = ap (λ (m : Reading). nth (m .fields) k) (fine-eq (b .2)) ∙ a .2 in
+    let g = nth-moved (w .head .next) (w .fields) k f fields in
+    let within = nth-within (drop (w .head .next) s) (w .head .fields) 0 (w .fields) k (g .0) (parts .3) (g .1) in
+    let next = next-within noTable s w (b .1) in
+    subst (λ (x : Field). x .first + x .size ≤ length s) (g .2) (omega (arith, length-drop (w .head .next) s))

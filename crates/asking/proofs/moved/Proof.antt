@@ -1,0 +1,19 @@
+-- The two places are moved, and nothing else.
+use borrow.Author.Needs.{needs}
+use mathlib.Core.Path.{refl}
+use Rattle.sim0mq.specs.Payload.{moved}
+use Rattle.asking.proofs.moved.Statement.{statement}
+use Rattle.asking.proofs.moved.Tie as tie
+
+add-t3 : tie.Need-add-t3
+add-t3 c = search needs
+
+add-t4 : tie.Need-add-t4
+add-t4 c = search needs
+
+returns : tie.Need-returns
+unfolding moved
+returns c = refl
+
+pub moved-spec : {M : Type 1} → statement M
+moved-spec = tie.close (tie.spec add-t3 add-t4 returns)
