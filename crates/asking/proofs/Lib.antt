@@ -1,1 +1,2 @@
 pub mod FindCases
+pub mod Signed

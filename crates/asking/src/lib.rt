@@ -12,6 +12,8 @@ use reading::Reading;
 use reading::judged;
 use sim0mq::Refusal;
 
+pub mod scalars;
+
 // A field of a part that begins at `base`, with places in the whole.
 fn moved(f: Field, base: usize) -> Field
     requires { ⌜ (base + f .place ≤ 32768) × (base + f .first ≤ 32768) ⌝ }

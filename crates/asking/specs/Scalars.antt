@@ -1,0 +1,64 @@
+-- The values of scalar fields (01, "What reading returns"; 000, 2.1 and 2.2.1, 2.2.2, 2.2.9): codes 0 to 8, 25 and 26.
+use Prim.Native.Nat.{ℕ, suc, _+_, _-_, _^_}
+use mathlib.Core.Bool.{cond, not}
+use mathlib.Core.List.{List}
+use lib.Dec.{ltb, eqb}
+use lib.IntN.{ℤ, pos, negsuc}
+use lib.Ieee.{binary32, binary64, nanBits, ofBits}
+use Rattle.sim0mq.specs.Answer.{Answer, fine, refused, _>>=_, byte, big}
+use Rattle.sim0mq.specs.Field.{Field}
+use Rattle.sim0mq.specs.Mark.{Kind, plain, money, moneyPer, unknown, kindOf}
+use Rattle.asking.specs.declared.scalars.Mark.{Mark}
+use Rattle.asking.specs.declared.scalars.Scalar.{Scalar}
+use Rattle.asking.specs.declared.scalars.Scalar.the-variants.{Byte, Short, Int, Long, Float, Double, Boolean, Char8, Char16, FloatUnit, DoubleUnit, NotNumber}
+use Rattle.asking.specs.declared.scalars.Value.{Value}
+use Rattle.asking.specs.declared.scalars.Value.the-variants.{Is, Refused}
+
+-- The signed number that n writes in w bits: below half of 2 ^ w it is n itself, else n less 2 ^ w.
+unfoldable pub twos : ℕ → ℕ → ℤ
+twos w n = cond (ltb n (2 ^ (w - 1))) (pos n) (negsuc (2 ^ w - suc n))
+
+-- The float or double of some bits (IEEE 754), exactly where they are no NaN.
+unfoldable pub floatOf : ℕ → Scalar
+floatOf x = cond (nanBits binary32 x) (NotNumber 4) (Float (ofBits binary32 x))
+
+unfoldable pub doubleOf : ℕ → Scalar
+doubleOf x = cond (nanBits binary64 x) (NotNumber 5) (Double (ofBits binary64 x))
+
+unfoldable pub withFloat : ℕ → Mark → Scalar
+withFloat x m = cond (nanBits binary32 x) (NotNumber 25) (FloatUnit (ofBits binary32 x) m)
+
+unfoldable pub withDouble : ℕ → Mark → Scalar
+withDouble x m = cond (nanBits binary64 x) (NotNumber 26) (DoubleUnit (ofBits binary64 x) m)
+
+-- The mark at `at`, whose unit type is of this kind: unit type, currency and display, 0 where it has none.
+unfoldable pub markOf : List ℕ → ℕ → Kind → Mark
+markOf s at (plain t) = record { unit = byte s at; currency = 0; display = byte s (at + 1) }
+markOf s at money = record { unit = byte s at; currency = big s (at + 1) 2; display = 0 }
+markOf s at (moneyPer t) = record { unit = byte s at; currency = big s (at + 1) 2; display = byte s (at + 3) }
+markOf s at unknown = record { unit = byte s at; currency = 0; display = 0 }
+
+abbrev pub markAt : List ℕ → ℕ → Mark
+markAt s at = markOf s at (kindOf (byte s at))
+
+-- The value of a field, by its code; 17 at 0 where it is no scalar.
+unfoldable pub scalarOf : List ℕ → Field → Answer Scalar
+scalarOf s f =
+    let at = f .first in
+    cond (eqb (f .code) 0) (fine (Byte (twos 8 (big s at 1))))
+    (cond (eqb (f .code) 1) (fine (Short (twos 16 (big s at 2))))
+    (cond (eqb (f .code) 2) (fine (Int (twos 32 (big s at 4))))
+    (cond (eqb (f .code) 3) (fine (Long (twos 64 (big s at 8))))
+    (cond (eqb (f .code) 4) (fine (floatOf (big s at 4)))
+    (cond (eqb (f .code) 5) (fine (doubleOf (big s at 8)))
+    (cond (eqb (f .code) 6) (fine (Boolean (not (eqb (big s at 1) 0))))
+    (cond (eqb (f .code) 7) (fine (Char8 (big s at 1)))
+    (cond (eqb (f .code) 8) (fine (Char16 (big s at 2)))
+    (cond (eqb (f .code) 25) (fine (withFloat (big s at 4) (markAt s (f .place + 1))))
+    (cond (eqb (f .code) 26) (fine (withDouble (big s at 8) (markAt s (f .place + 1))))
+    (refused 17 0)))))))))))
+
+-- Each case of an answer, as an answer of the definitions.
+abbrev pub valued : Value → Answer Scalar
+valued (Is v) = fine v
+valued (Refused r) = refused (r .number) (r .place)
