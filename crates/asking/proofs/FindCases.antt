@@ -7,12 +7,9 @@ use native.Mathlib.Numerals.{add-one}
 use native.Mathlib.Nat.{not-suc-le-zero, le-of-suc-le-suc}
 use lib.ListN.{length, drop, length-drop, length-map}
 use Rattle.sim0mq.specs.Answer.{Answer, fine, refused}
-use Rattle.sim0mq.specs.Field.{Field, after, outline, field}
+use Rattle.sim0mq.specs.Field.{Field, after, outline}
 use Rattle.sim0mq.specs.Payload.{payloadFrom, payload, moved}
-use Rattle.sim0mq.specs.Message.{limit, noTable, Reading, readingOf, reading}
-use Rattle.sim0mq.proofs.Answers.{guarded, bind-fine, fine-eq, not-fine}
-use Rattle.sim0mq.proofs.Refusals.{field-within}
-use lib.Dec.{leb}
+use Rattle.sim0mq.specs.Message.{limit, noTable, readingOf, reading}
 use Rattle.reading.specs.Rows.{taken}
 use Rattle.reading.proofs.RowCases.{fields-next}
 use Rattle.reading.specs.Answers.{Whole, whole}
@@ -105,42 +102,3 @@ module _ (s : List ℕ) (k : ℕ) where
           some = h;
           short = rw d (omega (arith, length-drop next s));
         }
-
--- a field of an accepted payload lies in it
-nth-within : (s : List ℕ) (n at : ℕ) (fs : List Field) (k : ℕ) (f : Field) → payloadFrom s n at ≡ fine fs → nth fs k ≡ fine f
-    → f .first + f .size ≤ length s
-unfolding payloadFrom nth after
-nth-within s zero at fs k f q e =
-    let g = guarded (leb (length s) at) _ _ _ q in
-    let none : refused 16 0 ≡ fine f = ap (λ (l : List Field). nth l k) (fine-eq (g .1)) ∙ e in
-    absurd (not-fine none)
-nth-within s (suc n) at fs k f q e =
-    let a = bind-fine (field s at) _ q in
-    let b = bind-fine (payloadFrom s n (a .0 .first + a .0 .size)) _ (a .2) in
-    let here : nth (a .0 ∷ b .0) k ≡ fine f = ap (λ (l : List Field). nth l k) (fine-eq (b .2)) ∙ e in
-    at-place k (a .0) (b .0) (field-within s at (a .0) (a .1) .1) (λ j r. nth-within s n (a .0 .first + a .0 .size) (b .0) j f (b .1) r) here
-  where
-    at-place : (k : ℕ) (g : Field) (gs : List Field) → g .first + g .size ≤ length s
-        → ((j : ℕ) → nth gs j ≡ fine f → f .first + f .size ≤ length s) → nth (g ∷ gs) k ≡ fine f → f .first + f .size ≤ length s
-    at-place zero g gs h later e = subst (λ (x : Field). x .first + x .size ≤ length s) (fine-eq e) h
-    at-place (suc j) g gs h later e = later j e
-
-nth-moved : (b : ℕ) (fs : List Field) (k : ℕ) (g : Field) → nth (map (moved b) fs) k ≡ fine g → (f : Field) × (nth fs k ≡ fine f) × (moved b f ≡ g)
-unfolding nth
-nth-moved b [] k g e = absurd (not-fine e)
-nth-moved b (f ∷ fs) zero g e = (f, refl, fine-eq e)
-nth-moved b (f ∷ fs) (suc k) g e = nth-moved b fs k g e
-
--- the field that was asked for lies in the message
-pub asked-within : (s : List ℕ) (k : ℕ) (f : Field) → asked s k ≡ fine f → f .first + f .size ≤ length s
-unfolding asked payload moved
-asked-within s k f q =
-    let a = bind-fine (reading noTable s) _ q in
-    let b = bind-fine (whole noTable s) _ (sym (reading-whole noTable s) ∙ a .1) in
-    let w = b .0 in
-    let parts = whole-parts noTable s w (b .1) in
-    let fields : nth (map (moved (w .head .next)) (w .fields)) k ≡ fine f = ap (λ (m : Reading). nth (m .fields) k) (fine-eq (b .2)) ∙ a .2 in
-    let g = nth-moved (w .head .next) (w .fields) k f fields in
-    let within = nth-within (drop (w .head .next) s) (w .head .fields) 0 (w .fields) k (g .0) (parts .3) (g .1) in
-    let next = next-within noTable s w (b .1) in
-    subst (λ (x : Field). x .first + x .size ≤ length s) (g .2) (omega (arith, length-drop (w .head .next) s))

@@ -1,2 +1,4 @@
 pub mod FindCases
 pub mod Signed
+pub mod ScalarCases
+pub mod StandingLaws

@@ -4,6 +4,9 @@ ghost use Prim.Native.Nat.{_+_, _≤_};
 ghost use Rattle.payload.specs.Items.{fielded, seen};
 ghost use Rattle.sim0mq.specs.Payload.{moved as movedBy};
 ghost use Rattle.asking.specs.Asking.{asked, viewOf, Findable, foundAt};
+ghost use Rattle.asking.specs.Scalars.{value as valueOf, valued};
+use crate::scalars::Value;
+use crate::scalars::scalar_of;
 use payload::fields::Field;
 use payload::fields::Fielded;
 use payload::fields::outline;
@@ -85,5 +88,15 @@ pub fn view(message: &[u8], k: usize) -> &[u8]
             let end = first + f.size;
             &message[first..end]
         }
+    }
+}
+
+// The value of field k, where it is a scalar; else the refusal, which is asking's or 17.
+pub fn value(message: &[u8], k: usize) -> Value
+    ensures { λ r. ⌜ valued r ≡ valueOf (now (message .entry)) k ⌝ }
+{
+    match ask(message, k) {
+        Fielded::Refused(r) => Value::Refused(r),
+        Fielded::Accepted(f) => scalar_of(message, f),
     }
 }

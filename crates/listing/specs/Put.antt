@@ -1,15 +1,41 @@
--- What the contract of `put` cites. Assumes nothing.
+-- What putting texts into a buffer does: one text, and one text after the other. Assumes nothing.
 use Prim.Native.Nat.{ℕ, _+_, min}
 use mathlib.Core.Bool.{cond}
-use mathlib.Core.List.{List}
+use mathlib.Core.List.{List, [], _∷_}
 use lib.Dec.{leb}
 use lib.ListN.{length}
 use lib.Seq.{paste}
+use Rattle.sim0mq.specs.Allowed.{joined}
 
 -- the place after a text put from `from` on: one past the end of `out` where the text does not fit
-abbrev pub placeAfter : List ℕ → ℕ → List ℕ → ℕ
+unfoldable pub placeAfter : List ℕ → ℕ → List ℕ → ℕ
 placeAfter out from text = min (from + length text) (length out + 1)
 
 -- `out` with a text put from `from` on: as it was where the text does not fit
-abbrev pub withText : List ℕ → ℕ → List ℕ → List ℕ
+unfoldable pub withText : List ℕ → ℕ → List ℕ → List ℕ
 withText out from text = cond (leb (from + length text) (length out)) (paste out from text (length text)) out
+
+-- a buffer, and the place in it where the next text goes
+pub record Buffer : Type 0 where
+  pub out : List ℕ
+  pub place : ℕ
+
+abbrev pub buffer : List ℕ → ℕ → Buffer
+buffer out place = record { out = out; place = place }
+
+-- the buffer once texts are put into it, one after the other, each from the place where the one before ended
+unfoldable pub putAll : Buffer → List (List ℕ) → Buffer
+putAll b [] = b
+putAll b (t ∷ ts) = putAll (buffer (withText (b .out) (b .place) t) (placeAfter (b .out) (b .place) t)) ts
+
+-- what texts put at the front of `out` leave in it
+unfoldable pub outAfter : List ℕ → List (List ℕ) → List ℕ
+outAfter out texts = putAll (buffer out 0) texts .out
+
+-- how many bytes of `out` stand before a place: 0 where the place is past its end
+unfoldable pub bytesBefore : List ℕ → ℕ → ℕ
+bytesBefore out place = cond (leb place (length out)) place 0
+
+-- how many bytes these texts have, end to end: 0 where `out` is too short for them
+unfoldable pub bytesOf : List ℕ → List (List ℕ) → ℕ
+bytesOf out texts = bytesBefore out (length (joined texts))

@@ -7,19 +7,28 @@ use reading::Found;
 use reading::Reading;
 use sim0mq::Refusal;
 ghost use mathlib.Core.Path.{_≡_};
+ghost use Prim.Native.Nat.{_*_, _≤_};
+ghost use lib.ListN.{length};
 ghost use Rattle.io.specs.Counts.{Counts};
-ghost use Rattle.listing.specs.Put.{placeAfter, withText};
+ghost use Rattle.sim0mq.specs.Table.{rowSize};
+ghost use Rattle.listing.specs.Put.{placeAfter, withText, buffer, putAll, outAfter, bytesBefore, bytesOf};
+ghost use Rattle.listing.specs.Text.{decimal, acceptedText, refusedText, rowText, rowsText, lineText, wholeText};
 
 // How many table numbers a field has.
 const ROW: usize = 5;
 
 // The text of what reading answered, at the front of `out`: how many bytes it has, and 0 where `out` is too short for it or `table` for its rows.
-// Each line ends with a newline. Where it answers 0, what stands in `out` is of no account.
+// Each line ends with a newline. Where `table` is too short, nothing is put.
 pub fn listing(said: Reading, table: &[u32], out: &mut [u8]) -> usize
-    ensures { λ r. ⌜ Counts r (now (out .exit)) ⌝ }
+    ensures counts { λ r. ⌜ Counts r (now (out .exit)) ⌝ }
+    ensures answer { λ r. ⌜ r ≡ bytesOf (now (out .entry)) (wholeText said (now (table .entry))) ⌝ }
+    ensures text { λ _. ⌜ now (out .exit) ≡ outAfter (now (out .entry)) (wholeText said (now (table .entry))) ⌝ }
 {
     match said {
         Reading::Accepted(found) => {
+            if table.len() / ROW < found.fields {
+                return 0;
+            }
             let at = accepted(found, out);
             let end = rows(found.fields, table, out, at);
             whole(end, out)
@@ -33,7 +42,9 @@ pub fn listing(said: Reading, table: &[u32], out: &mut [u8]) -> usize
 
 // The first line of that text alone, at the front of `out`: how many bytes it has, and 0 where `out` is too short for it.
 pub fn first_line(said: Reading, out: &mut [u8]) -> usize
-    ensures { λ r. ⌜ Counts r (now (out .exit)) ⌝ }
+    ensures counts { λ r. ⌜ Counts r (now (out .exit)) ⌝ }
+    ensures answer { λ r. ⌜ r ≡ bytesOf (now (out .entry)) (lineText said) ⌝ }
+    ensures text { λ _. ⌜ now (out .exit) ≡ outAfter (now (out .entry)) (lineText said) ⌝ }
 {
     match said {
         Reading::Accepted(found) => {
@@ -50,12 +61,15 @@ pub fn first_line(said: Reading, out: &mut [u8]) -> usize
 // How many bytes of `out` stand before `end`: none where `end` is past it.
 fn whole(end: usize, out: &[u8]) -> usize
     ensures { λ r. ⌜ Counts r (now (out .entry)) ⌝ }
+    ensures { λ r. ⌜ r ≡ bytesBefore (now (out .entry)) end ⌝ }
 {
     if end <= out.len() { end } else { 0 }
 }
 
 // The place after the line of an accepted message: its fields, steps and length.
-fn accepted(found: Found, out: &mut [u8]) -> usize {
+fn accepted(found: Found, out: &mut [u8]) -> usize
+    ensures { λ r. ⌜ buffer (now (out .exit)) r ≡ putAll (buffer (now (out .entry)) 0) (acceptedText found) ⌝ }
+{
     let mut at = put(b"SIM01 fields ", out, 0);
     at = number(found.fields as u64, out, at);
     at = put(b" steps ", out, at);
@@ -66,7 +80,9 @@ fn accepted(found: Found, out: &mut [u8]) -> usize {
 }
 
 // The place after the line of a refusal: its number and place.
-fn refused(refusal: Refusal, out: &mut [u8]) -> usize {
+fn refused(refusal: Refusal, out: &mut [u8]) -> usize
+    ensures { λ r. ⌜ buffer (now (out .exit)) r ≡ putAll (buffer (now (out .entry)) 0) (refusedText refusal) ⌝ }
+{
     let mut at = put(b"refused ", out, 0);
     at = number(refusal.number as u64, out, at);
     at = put(b" at ", out, at);
@@ -74,11 +90,11 @@ fn refused(refusal: Refusal, out: &mut [u8]) -> usize {
     put(b"\n", out, at)
 }
 
-// The place after the rows of the first `fields` fields, put from `from` on; past `out` where `table` is too short for them.
-fn rows(fields: usize, table: &[u32], out: &mut [u8], from: usize) -> usize {
-    if table.len() / ROW < fields {
-        return out.len() + 1;
-    }
+// The place after the rows of the first `fields` fields, put from `from` on.
+fn rows(fields: usize, table: &[u32], out: &mut [u8], from: usize) -> usize
+    requires { ⌜ rowSize * fields ≤ length (now table) ⌝ }
+    ensures { λ r. ⌜ buffer (now (out .exit)) r ≡ putAll (buffer (now (out .entry)) from) (rowsText (now (table .entry)) fields) ⌝ }
+{
     let mut at = from;
     let mut i = 0;
     while i < fields {
@@ -89,7 +105,9 @@ fn rows(fields: usize, table: &[u32], out: &mut [u8], from: usize) -> usize {
 }
 
 // The place after the row of field i, put from `from` on: i and its numbers.
-fn row(i: usize, numbers: &[u32], out: &mut [u8], from: usize) -> usize {
+fn row(i: usize, numbers: &[u32], out: &mut [u8], from: usize) -> usize
+    ensures { λ r. ⌜ buffer (now (out .exit)) r ≡ putAll (buffer (now (out .entry)) from) (rowText i (now (numbers .entry))) ⌝ }
+{
     let mut at = number(i as u64, out, from);
     let mut j = 0;
     while j < numbers.len() {
@@ -101,12 +119,17 @@ fn row(i: usize, numbers: &[u32], out: &mut [u8], from: usize) -> usize {
 }
 
 // A table number, as a number to print.
-fn wide(x: u32) -> u64 {
+fn wide(x: u32) -> u64
+    ensures { λ r. ⌜ r ≡ x ⌝ }
+{
     x as u64
 }
 
 // The place after n's decimal digits, put from `from` on.
-fn number(n: u64, out: &mut [u8], from: usize) -> usize {
+fn number(n: u64, out: &mut [u8], from: usize) -> usize
+    ensures { λ r. ⌜ r ≡ placeAfter (now (out .entry)) from (decimal n) ⌝ }
+    ensures { λ _. ⌜ now (out .exit) ≡ withText (now (out .entry)) from (decimal n) ⌝ }
+{
     let mut digits = [0u8; 20];
     let k = io::decimal(n, &mut digits);
     put(&digits[..k], out, from)

@@ -48,23 +48,23 @@ unfolding allPass
 per-known k = let h : getD perRow k 0 ≤ 28 = leb-true _ 28 (pass-any (λ (t : ℕ). leb t 28) perRow k refl refl) in omega arith
 
 -- the kinds of unit types
-kind-plain : (u : ℕ) → u ≤ 28 → kindOf u ≡ plain u
+pub kind-plain : (u : ℕ) → u ≤ 28 → kindOf u ≡ plain u
 unfolding kindOf
 kind-plain u h = simp (le-leb u 28 h)
 
-kind-between : (u : ℕ) → 28 < u → u ≤ 99 → kindOf u ≡ unknown
+pub kind-between : (u : ℕ) → 28 < u → u ≤ 99 → kindOf u ≡ unknown
 unfolding kindOf
 kind-between u h k = simp (lt-leb u 28 h, le-leb u 99 k)
 
-kind-money : (u : ℕ) → u ≡ 100 → kindOf u ≡ money
+pub kind-money : (u : ℕ) → u ≡ 100 → kindOf u ≡ money
 unfolding kindOf
 kind-money u e = simp e
 
-kind-per : (u : ℕ) → 100 < u → u ≤ 106 → kindOf u ≡ moneyPer (getD perRow (u - 101) 0)
+pub kind-per : (u : ℕ) → 100 < u → u ≤ 106 → kindOf u ≡ moneyPer (getD perRow (u - 101) 0)
 unfolding kindOf
 kind-per u h k = simp (lt-leb u 28 (omega arith), lt-leb u 99 (omega arith), ne-eqb u 100 (λ e. omega arith), le-leb u 106 k)
 
-kind-above : (u : ℕ) → 106 < u → kindOf u ≡ unknown
+pub kind-above : (u : ℕ) → 106 < u → kindOf u ≡ unknown
 unfolding kindOf
 kind-above u h = simp (lt-leb u 28 (omega arith), lt-leb u 99 (omega arith), ne-eqb u 100 (λ e. omega arith), lt-leb u 106 h)
 

@@ -3,19 +3,15 @@
 use Prim.Native.Nat.{ℕ, _+_, _-_, _<_, _≤_}
 use native.Mathlib.Omega.{arith}
 use native.Mathlib.Numerals.{add-one}
-use mathlib.Core.Path.{_≡_, _∙_}
+use mathlib.Core.Path.{_≡_, sym, _∙_}
 use mathlib.Core.List.{List}
 use lib.ListN.{length, getD, set}
 use lib.Seq.{paste, paste-zero, paste-suc}
 use borrow.Author.Needs.{needs}
-use borrow.Author.Tests.{le-leb, lt-leb}
-use Rattle.listing.specs.Put.{withText}
+use Rattle.listing.specs.Put.{placeAfter, withText}
+use Rattle.listing.proofs.PutCases.{with-fits, with-over}
 use Rattle.listing.proofs.put.Statement.{statement}
 use Rattle.listing.proofs.put.Tie as tie
-
--- a text that does not fit leaves the buffer as it was
-over : (out : List ℕ) (from : ℕ) (text : List ℕ) → length out < from + length text → out ≡ withText out from text
-over out from text h = simp (lt-leb _ _ h)
 
 -- a turn puts one byte more
 turn : (out₀ out : List ℕ) (from : ℕ) (text : List ℕ) (i : ℕ) → out ≡ paste out₀ from text i → from + i < length out₀ → i < length text
@@ -25,7 +21,7 @@ turn out₀ out from text i e ho ht = rw (e, add-one i) (paste-suc out₀ from t
 -- after the last turn the whole text is there
 ended : (out₀ out : List ℕ) (from : ℕ) (text : List ℕ) (i : ℕ) → out ≡ paste out₀ from text i → from + length text ≤ length out₀ → i ≡ length text
     → out ≡ withText out₀ from text
-ended out₀ out from text i e ho ei = e ∙ rw (ei, le-leb (from + length text) (length out₀) ho)
+ended out₀ out from text i e ho ei = e ∙ rw (ei, with-fits out₀ from text ho)
 
 abbrev Inv-loop : tie.InvT-loop
 Inv-loop text out₀ from i₀ out i = (i ≤ length text) × (length out ≡ length out₀) × (from + length text ≤ length out₀) × (out ≡ paste out₀ from text i)
@@ -37,9 +33,10 @@ add-result : tie.Need-add-result Inv-loop μ-loop
 add-result c = search needs
 
 returns : tie.Need-returns Inv-loop μ-loop
+unfolding placeAfter
 returns c =
     let a = c .before .args in
-    (search needs, over (a .out .now) (a .from) (a .text .now) (omega arith))
+    (search needs, sym (with-over (a .out .now) (a .from) (a .text .now) (omega arith)))
 
 sub-if2 : tie.Need-sub-if2 Inv-loop μ-loop
 sub-if2 c = search needs
@@ -48,9 +45,10 @@ add-result-2 : tie.Need-add-result-2 Inv-loop μ-loop
 add-result-2 c = search needs
 
 returns-2 : tie.Need-returns-2 Inv-loop μ-loop
+unfolding placeAfter
 returns-2 c =
     let a = c .before .before .args in
-    (search needs, over (a .out .now) (a .from) (a .text .now) (omega arith))
+    (search needs, sym (with-over (a .out .now) (a .from) (a .text .now) (omega arith)))
 
 loop-holds : tie.Need-loop-holds Inv-loop μ-loop
 loop-holds c =
@@ -89,6 +87,7 @@ same-length : tie.Need-same-length Inv-loop μ-loop
 same-length c = search needs
 
 returns-3 : tie.Need-returns-3 Inv-loop μ-loop
+unfolding placeAfter
 returns-3 c =
     let a = c .before .before .before .before .args in
     let l = c .before .loop in

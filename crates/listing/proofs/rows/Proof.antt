@@ -1,25 +1,46 @@
--- listing::rows is safe and ends. The invariant: the table holds the numbers of every field, and the buffer keeps its length.
+-- listing::rows meets its contract. The invariant: the buffer is what the rows of the first i fields leave.
 -- Assumes nothing.
-use Prim.Native.Nat.{_*_, _-_, _≤_}
-use mathlib.Core.Path.{_≡_}
-use lib.ListN.{length}
+use Prim.Native.Nat.{ℕ, _+_, _*_, _-_, _≤_}
+use native.Mathlib.Omega.{arith}
+use native.Mathlib.Numerals.{add-one}
+use mathlib.Core.Path.{_≡_, sym, _∙_, ap}
+use mathlib.Core.List.{List}
+use lib.ListN.{length, take, drop}
 use borrow.Author.Needs.{needs}
+use Rattle.sim0mq.specs.Table.{rowSize}
+use Rattle.listing.specs.Put.{Buffer, buffer, putAll}
+use Rattle.listing.specs.Text.{rowText, rowsText}
+use Rattle.listing.proofs.PutCases.{put-append}
 use Rattle.listing.proofs.rows.Statement.{statement}
 use Rattle.listing.proofs.rows.Tie as tie
 
+-- a turn puts the row of one field more
+turn : (start before after : Buffer) (table numbers : List ℕ) (i : ℕ) → before ≡ putAll start (rowsText table i) → after ≡ putAll before (rowText i numbers)
+    → numbers ≡ take rowSize (drop (rowSize * i) table) → after ≡ putAll start (rowsText table (i + 1))
+unfolding rowsText
+turn start before after table numbers i e f g =
+    rw (add-one i)
+    (f ∙ (rw (e, g) (sym (put-append start (rowsText table i) (rowText i (take rowSize (drop (rowSize * i) table)))))))
+
+-- the numbers of field i
+numbers-of : (table : List ℕ) (i : ℕ) → take (5 * i + 5 - 5 * i) (drop (5 * i) table) ≡ take rowSize (drop (rowSize * i) table)
+unfolding rowSize
+numbers-of table i =
+    let e : 5 * i + 5 - 5 * i ≡ 5 = omega arith in
+    rw e
+
 abbrev Inv-loop : tie.InvT-loop
-Inv-loop fields table out₀ from at₀ i₀ out at i = (i ≤ fields) × (5 * fields ≤ length table) × (length out ≡ length out₀)
+Inv-loop fields table out₀ from at₀ i₀ out at i =
+    (i ≤ fields)
+    × (5 * fields ≤ length table)
+    × (length out ≡ length out₀)
+    × (buffer out at ≡ putAll (buffer out₀ at₀) (rowsText table i))
 
 abbrev μ-loop : tie.MeasureT-loop
 μ-loop fields table out₀ from at₀ i₀ out at i = fields - i
 
-add-result : tie.Need-add-result Inv-loop μ-loop
-add-result c = search needs
-
-returns : tie.Need-returns Inv-loop μ-loop
-returns c = search needs
-
 loop-holds : tie.Need-loop-holds Inv-loop μ-loop
+unfolding putAll rowsText rowSize
 loop-holds c = search needs
 
 mul-row : tie.Need-mul-row Inv-loop μ-loop
@@ -53,13 +74,21 @@ loop-less : tie.Need-loop-less Inv-loop μ-loop
 loop-less c = search needs
 
 loop-again : tie.Need-loop-again Inv-loop μ-loop
-loop-again c = search needs
+loop-again c =
+    let r = c .before .before in
+    let l = r .before .before .before .before in
+    let a = l .before .before .before .args in
+    let t = turn _ _ _ (a .table .now) _ (l .loop .i) (l .loop .inv .3) (r .row .ensures) (numbers-of _ (l .loop .i)) in
+    (search needs, search needs, search needs, t)
 
 same-length : tie.Need-same-length Inv-loop μ-loop
 same-length c = search needs
 
-returns-2 : tie.Need-returns-2 Inv-loop μ-loop
-returns-2 c = search needs
+returns : tie.Need-returns Inv-loop μ-loop
+returns c =
+    let l = c .before .loop in
+    let e : l .i ≡ c .before .before .before .before .args .fields = omega arith in
+    l .inv .3 ∙ ap (putAll _) (ap (rowsText _) e)
 
 pub rows-spec : {M : Type 1} → statement M
 rows-spec =
@@ -67,8 +96,6 @@ rows-spec =
     (tie.spec
     Inv-loop
     μ-loop
-    add-result
-    returns
     loop-holds
     mul-row
     mul-row-2
@@ -82,4 +109,4 @@ rows-spec =
     loop-less
     loop-again
     same-length
-    returns-2)
+    returns)

@@ -1,15 +1,19 @@
 -- listing::whole meets its contract: a place within the buffer counts the bytes before it.
 -- Assumes nothing.
 use borrow.Author.Needs.{needs}
+use borrow.Author.Tests.{le-leb, lt-leb}
 use Rattle.io.proofs.Counting.{counts}
+use Rattle.listing.specs.Put.{bytesBefore}
 use Rattle.listing.proofs.whole.Statement.{statement}
 use Rattle.listing.proofs.whole.Tie as tie
 
 returns : tie.Need-returns
-returns c = counts _ _ (search needs)
+unfolding bytesBefore
+returns c = (counts _ _ (search needs), simp (le-leb _ _ (c .if1 .taken)))
 
 returns-2 : tie.Need-returns-2
-returns-2 c = search needs
+unfolding bytesBefore
+returns-2 c = (search needs, simp (lt-leb _ _ (c .if1 .left)))
 
 pub whole-spec : {M : Type 1} → statement M
 whole-spec = tie.close (tie.spec returns returns-2)

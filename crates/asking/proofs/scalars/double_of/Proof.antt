@@ -4,8 +4,6 @@ use lib.Ieee.Bits.{nanBits-above}
 use Rattle.asking.specs.Scalars.{doubleOf}
 use Rattle.asking.proofs.scalars.double_of.Statement.{statement}
 use Rattle.asking.proofs.scalars.double_of.Tie as tie
-use Rattle.asking.proofs.scalars.double_of.Reads as reads
-use Rattle.asking.proofs.scalars.double_of.Lts as lts
 
 -- src/scalars.rt:105:24
 float-from-bits-t5 : tie.Need-float-from-bits-t5

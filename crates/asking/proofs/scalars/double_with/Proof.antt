@@ -4,8 +4,6 @@ use lib.Ieee.Bits.{nanBits-above}
 use Rattle.asking.specs.Scalars.{withDouble}
 use Rattle.asking.proofs.scalars.double_with.Statement.{statement}
 use Rattle.asking.proofs.scalars.double_with.Tie as tie
-use Rattle.asking.proofs.scalars.double_with.Reads as reads
-use Rattle.asking.proofs.scalars.double_with.Lts as lts
 
 -- src/scalars.rt:127:28
 float-from-bits-t6 : tie.Need-float-from-bits-t6

@@ -4,8 +4,6 @@ use lib.Ieee.Bits.{nanBits-above}
 use Rattle.asking.specs.Scalars.{floatOf}
 use Rattle.asking.proofs.scalars.float_of.Statement.{statement}
 use Rattle.asking.proofs.scalars.float_of.Tie as tie
-use Rattle.asking.proofs.scalars.float_of.Reads as reads
-use Rattle.asking.proofs.scalars.float_of.Lts as lts
 
 -- src/scalars.rt:94:23
 float-from-bits-t5 : tie.Need-float-from-bits-t5

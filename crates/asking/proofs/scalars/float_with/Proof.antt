@@ -4,8 +4,6 @@ use lib.Ieee.Bits.{nanBits-above}
 use Rattle.asking.specs.Scalars.{withFloat}
 use Rattle.asking.proofs.scalars.float_with.Statement.{statement}
 use Rattle.asking.proofs.scalars.float_with.Tie as tie
-use Rattle.asking.proofs.scalars.float_with.Reads as reads
-use Rattle.asking.proofs.scalars.float_with.Lts as lts
 
 -- src/scalars.rt:116:27
 float-from-bits-t6 : tie.Need-float-from-bits-t6

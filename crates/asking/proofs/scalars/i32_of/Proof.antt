@@ -8,8 +8,6 @@ use mir.ValLaws.{toZ-pos}
 use Rattle.asking.proofs.Signed.{flip-fits, flip-back, twos-low, twos-high}
 use Rattle.asking.proofs.scalars.i32_of.Statement.{statement}
 use Rattle.asking.proofs.scalars.i32_of.Tie as tie
-use Rattle.asking.proofs.scalars.i32_of.Reads as reads
-use Rattle.asking.proofs.scalars.i32_of.Lts as lts
 
 -- src/scalars.rt:66:9
 cast-result : tie.Need-cast-result

@@ -1,0 +1,34 @@
+-- The field is asked for, and its value is told by its code.
+use borrow.Author.Needs.{needs}
+use mathlib.Core.Path.{sym, ap, _∙_}
+use Rattle.sim0mq.specs.Answer.{_>>=_}
+use Rattle.payload.specs.Items.{fielded}
+use Rattle.asking.specs.Scalars.{scalarOf, value}
+use Rattle.asking.proofs.StandingLaws.{asked-standing}
+use Rattle.asking.proofs.value.Statement.{statement}
+use Rattle.asking.proofs.value.Tie as tie
+
+ask-requires : tie.Need-ask-requires
+ask-requires c κs = search needs
+
+enum-known-r : tie.Need-enum-known-r
+enum-known-r c = search needs
+
+enum-known-f : tie.Need-enum-known-f
+enum-known-f c = search needs
+
+scalar-of-requires : tie.Need-scalar-of-requires
+scalar-of-requires c κs = asked-standing _ _ _ (sym (c .before .before .before .ask .ensures) ∙ ap fielded (c .before .f .given .1))
+
+returns : tie.Need-returns
+unfolding value
+returns c = ap (λ a. a >>= scalarOf (c .before .before .before .before .before .args .message .now)) (sym (ap fielded (c .before .r .given .1)) ∙ c .before .before .before .ask .ensures)
+
+returns-2 : tie.Need-returns-2
+unfolding value
+returns-2 c = c .scalar-of .ensures ∙ ap (λ a. a >>= scalarOf (c .before .before .before .before .before .before .args .message .now)) (sym (ap fielded (c .before .before .f .given .1)) ∙ c .before .before .before .before .ask .ensures)
+
+pub value-spec : {M : Type 1} → statement M
+value-spec =
+    tie.close
+    (tie.spec ask-requires enum-known-r enum-known-f scalar-of-requires returns returns-2)

@@ -1,0 +1,4 @@
+pub mod PutCases
+pub mod DecimalCases
+pub mod Front
+pub mod Examples
