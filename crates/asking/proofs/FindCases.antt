@@ -1,10 +1,9 @@
 -- Finding field k: from a place on, the field asked for is the next one, or stands as many fields further as are left to pass.
-use Prim.Native.Nat.{ℕ, zero, suc, _+_, _-_, _≤_, _<_}
+use Prim.Native.Nat.{ℕ, _+_, _-_, _≤_, _<_}
 use mathlib.Core.Path.{_≡_, refl, ap, sym, _∙_, subst}
-use mathlib.Core.List.{List, [], _∷_, map}
+use mathlib.Core.List.{List, _∷_, map}
 use native.Mathlib.Omega.{arith}
 use native.Mathlib.Numerals.{add-one}
-use native.Mathlib.Nat.{not-suc-le-zero, le-of-suc-le-suc}
 use lib.ListN.{length, drop, length-drop, length-map}
 use Rattle.sim0mq.specs.Answer.{Answer, fine, refused}
 use Rattle.sim0mq.specs.Field.{Field, after, outline}
@@ -15,6 +14,7 @@ use Rattle.reading.proofs.RowCases.{fields-next}
 use Rattle.reading.specs.Answers.{Whole, whole}
 use Rattle.reading.proofs.AnswerCases.{reading-whole, whole-parts, part-accepted, next-within}
 use Rattle.asking.specs.Asking.{nth, asked, Findable, foundAt}
+use Rattle.asking.proofs.AskLaws.{nth-past}
 
 -- field k of a list: the first, or one further on
 nth-first : (f : Field) (fs : List Field) (k : ℕ) → k ≡ 0 → fine f ≡ nth (f ∷ fs) k
@@ -59,13 +59,6 @@ module _ (s : List ℕ) (base : ℕ) (all : Answer Field) (m p at left : ℕ) (f
       let rest = taken (payloadFrom s p (f .first + f .size)) in
       nth-first (moved base f) (map (moved base) rest) left e ∙ sym (whole ∙ ap (λ (fs : List Field). nth (map (moved base) fs) left) (r .0))
 
--- there is no field k where k fields are not passed
-nth-none : (fs : List Field) (k : ℕ) → length fs ≤ k → refused 16 0 ≡ nth fs k
-unfolding nth
-nth-none [] k h = refl
-nth-none (f ∷ fs) zero h = absurd (not-suc-le-zero h)
-nth-none (f ∷ fs) (suc k) h = nth-none fs k (le-of-suc-le-suc h)
-
 -- asking is reading, and then the field
 module _ (s : List ℕ) (k : ℕ) where
   pub ask-refused : (n p : ℕ) → whole noTable s ≡ refused n p → refused n p ≡ asked s k
@@ -80,7 +73,7 @@ module _ (s : List ℕ) (k : ℕ) where
 
     pub ask-none : (n : ℕ) → length (w .fields) ≡ n → n ≤ k → refused 16 0 ≡ asked s k
     ask-none n q h =
-        nth-none (map (moved (w .head .next)) (w .fields)) k (rw (length-map (w .fields) (moved (w .head .next)), q) h) ∙ ask-nth
+        sym (nth-past (map (moved (w .head .next)) (w .fields)) k (rw (length-map (w .fields) (moved (w .head .next)), q) h)) ∙ ask-nth
 
     pub ask-found : (part : List ℕ) (next n : ℕ) → next ≡ w .head .next → length (w .fields) ≡ n → part ≡ drop next s
         → foundAt part next n k ≡ asked s k

@@ -1,4 +1,11 @@
+pub mod AskLaws
+pub mod PartLaws
 pub mod FindCases
 pub mod Signed
 pub mod ScalarCases
 pub mod StandingLaws
+pub mod ReadCases
+pub mod NotNumbers
+pub mod ByteLaws
+pub mod BackLaws
+pub mod Promises

@@ -27,7 +27,7 @@ module _ (s : List ℕ) (f : Field) (st : Standing s f) where
   mark-there c e k m w =
       let size : f .size ≡ widthOf c = st .sized (ap countsOf e ∙ k) ∙ ap widthOf e in
       let within = st .within in
-      let marked = st .marked (ap markingOf e ∙ m) in
+      let marked = st .marked (ap countsOf e ∙ k) (ap markingOf e ∙ m) in
       omega arith
 
 -- the definition, at the code that the field has

@@ -1,2 +1,4 @@
 pub mod Asking
 pub mod Scalars
+pub mod Bytes
+pub mod Promises

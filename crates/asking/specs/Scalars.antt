@@ -45,11 +45,12 @@ markOf s at unknown = record { unit = byte s at; currency = 0; display = 0 }
 abbrev pub markAt : List ℕ → ℕ → Mark
 markAt s at = markOf s at (kindOf (byte s at))
 
--- What is known of a field of an accepted message s: its value bytes are in s, they are one value's where it has no count, and a mark is two bytes or more.
+-- What is known of a field of an accepted message s: its value bytes are in s; where it has no count they are one value's, and its mark, where it has
+-- one, is two bytes or more.
 pub record Standing (s : List ℕ) (f : Field) : Type 0 where
   pub within : f .first + f .size ≤ length s
   pub sized : countsOf (f .code) ≡ 0 → f .size ≡ widthOf (f .code)
-  pub marked : markingOf (f .code) ≡ 1 → f .place + 3 ≤ f .first
+  pub marked : countsOf (f .code) ≡ 0 → markingOf (f .code) ≡ 1 → f .place + 3 ≤ f .first
 
 -- The value of a field, by its code; 17 at 0 where it is no scalar.
 unfoldable pub scalarOf : List ℕ → Field → Answer Scalar

@@ -95,7 +95,8 @@ pub fn view(message: &[u8], k: usize) -> &[u8]
 pub fn value(message: &[u8], k: usize) -> Value
     ensures { λ r. ⌜ valued r ≡ valueOf (now (message .entry)) k ⌝ }
 {
-    match ask(message, k) {
+    let found = ask(message, k);
+    match found {
         Fielded::Refused(r) => Value::Refused(r),
         Fielded::Accepted(f) => scalar_of(message, f),
     }

@@ -112,24 +112,24 @@ fn double_of(x: u64) -> Scalar
 }
 
 // The float of these bits with its mark, of a field of code 25; or that they are not a number.
-fn float_with(x: u32, mark: Mark) -> Scalar
-    ensures { λ r. ⌜ r ≡ withFloat x mark ⌝ }
+fn float_with(bits: u32, mark: Mark) -> Scalar
+    ensures { λ r. ⌜ r ≡ withFloat bits mark ⌝ }
 {
-    if 2139095040 < x % 2147483648 {
+    if 2139095040 < bits % 2147483648 {
         Scalar::NotNumber(25)
     } else {
-        Scalar::FloatUnit(f32::from_bits(x), mark)
+        Scalar::FloatUnit(f32::from_bits(bits), mark)
     }
 }
 
 // The double of these bits with its mark, of a field of code 26; or that they are not a number.
-fn double_with(x: u64, mark: Mark) -> Scalar
-    ensures { λ r. ⌜ r ≡ withDouble x mark ⌝ }
+fn double_with(bits: u64, mark: Mark) -> Scalar
+    ensures { λ r. ⌜ r ≡ withDouble bits mark ⌝ }
 {
-    if 9218868437227405312 < x % 9223372036854775808 {
+    if 9218868437227405312 < bits % 9223372036854775808 {
         Scalar::NotNumber(26)
     } else {
-        Scalar::DoubleUnit(f64::from_bits(x), mark)
+        Scalar::DoubleUnit(f64::from_bits(bits), mark)
     }
 }
 

@@ -1,0 +1,45 @@
+-- The promises hold since asking takes field k of a reading, and the value of a field turns on its code and its bytes alone.
+use Prim.Native.Nat.{ℕ}
+use mathlib.Core.Path.{_≡_, ap, sym, _∙_, subst}
+use native.Mathlib.Omega.{arith}
+use lib.ListN.{length, take, drop, length-take, length-drop}
+use Rattle.sim0mq.specs.Answer.{Answer, fine, _>>=_}
+use Rattle.sim0mq.specs.Field.{Field}
+use Rattle.asking.specs.Scalars.{scalarOf, value}
+use Rattle.asking.specs.Promises.{Asking-agrees-with-reading, View-is-row-k, Not-a-number-exactly, Value-gives-back-its-bytes}
+use Rattle.asking.specs.declared.scalars.Scalar.the-variants.{NotNumber}
+use Rattle.asking.proofs.AskLaws.{asked-refused, asked-nth, nth-past, nth-past-only, nth-finds, nth-row}
+use Rattle.asking.proofs.BackLaws.{value-back}
+use Rattle.asking.proofs.NotNumbers.{nan-only, nan-always}
+use Rattle.asking.proofs.PartLaws.{asked-inside}
+use Rattle.asking.proofs.ReadCases.{read-as}
+
+-- asking is reading, and then field k of what was read
+pub asking-agrees-with-reading : Asking-agrees-with-reading
+asking-agrees-with-reading s k =
+    record {
+      refuses = λ n p q. asked-refused s k n p q;
+      past = λ m q. (λ e. nth-past-only (m .fields) k (sym (asked-nth s k m q) ∙ e), λ h. asked-nth s k m q ∙ nth-past (m .fields) k h);
+      finds = λ m q h. let a = nth-finds (m .fields) k h in (a .0, asked-nth s k m q ∙ a .1);
+    }
+
+-- row k is written off field k, and an accepted field lies in the message
+pub view-is-row-k : View-is-row-k
+view-is-row-k s k m f q a =
+    let within = asked-inside s k f a in
+    let l : length (take (f .size) (drop (f .first) s)) ≡ f .size = simp (length-take, length-drop) (omega arith) in
+    record { numbers = nth-row (m .fields) k f (sym (asked-nth s k m q) ∙ a); bytes = l }
+
+-- only the four codes of floats and doubles are put to the test
+pub not-a-number-exactly : Not-a-number-exactly
+not-a-number-exactly s f c = (
+  λ e. nan-only s f c (read-as s f (NotNumber c) e),
+  λ h. nan-always s f (h .1) ∙ ap (λ (k : ℕ). fine (NotNumber k)) (sym (h .0)),
+)
+
+-- the field's code says how its bytes were read, and each way of reading is undone by writing
+pub value-gives-back-its-bytes : Value-gives-back-its-bytes
+unfolding value
+value-gives-back-its-bytes s k f v bytes e q other =
+    let scalar : scalarOf s f ≡ fine v = subst (λ (a : Answer Field). (a >>= scalarOf s) ≡ fine v) q e in
+    value-back s bytes k f q v (read-as s f v scalar) other
