@@ -126,7 +126,7 @@ fn wide(x: u32) -> u64
 }
 
 // The place after n's decimal digits, put from `from` on.
-fn number(n: u64, out: &mut [u8], from: usize) -> usize
+pub fn number(n: u64, out: &mut [u8], from: usize) -> usize
     ensures { λ r. ⌜ r ≡ placeAfter (now (out .entry)) from (decimal n) ⌝ }
     ensures { λ _. ⌜ now (out .exit) ≡ withText (now (out .entry)) from (decimal n) ⌝ }
 {

@@ -1,5 +1,6 @@
 // Runs the cases of cases.txt and prints each that goes wrong, then how many there are and how many of them are wrong.
 mod tokens;
+mod values;
 mod words;
 
 use libc::STDERR_FILENO;
@@ -31,6 +32,9 @@ struct Run {
     // Whether it lends a table, and how many numbers that has.
     lends: bool,
     room: usize,
+    // Whether it asks for a field, and for which.
+    asks: bool,
+    field: usize,
 }
 
 // Nothing run yet.
@@ -48,6 +52,8 @@ fn start() -> Run {
         expects: 0,
         lends: true,
         room: ROOM,
+        asks: false,
+        field: 0,
     }
 }
 
@@ -98,6 +104,9 @@ fn deed(text: &[u8], line: &[u8], run: Run, message: &mut [u8], expected: &mut [
     if check::same(line, b"no table") {
         return no_table(run);
     }
+    if starts(line, b"asks ") {
+        return asks(line, run);
+    }
     if starts(line, b"gives ") {
         return gives(line, run, expected);
     }
@@ -128,6 +137,7 @@ fn case(run: Run) -> Run {
     after.expects = 0;
     after.lends = true;
     after.room = ROOM;
+    after.asks = false;
     after
 }
 
@@ -187,6 +197,14 @@ fn no_table(run: Run) -> Run {
     after
 }
 
+// `asks K`: field K is asked for.
+fn asks(line: &[u8], run: Run) -> Run {
+    let mut after = run;
+    after.asks = true;
+    after.field = last(line, 5);
+    after
+}
+
 // `gives TEXT`: one more line of the text that is expected.
 fn gives(line: &[u8], run: Run, expected: &mut [u8]) -> Run {
     let mut at = listing::put(part(line, 6, line.len()), expected, run.expects);
@@ -199,7 +217,7 @@ fn gives(line: &[u8], run: Run, expected: &mut [u8]) -> Run {
     after
 }
 
-// `end`: the case is run, and its listing compared.
+// `end`: the case is run, and its listing, or what asking answers, compared.
 fn end(text: &[u8], run: Run, message: &[u8], expected: &[u8]) -> Run {
     let mut told = [0u8; 16384];
     let n = answer(run, part(message, 0, run.length), &mut told);
@@ -221,8 +239,12 @@ fn end(text: &[u8], run: Run, message: &[u8], expected: &[u8]) -> Run {
     after
 }
 
-// The length of the listing of `message`, put at the front of `out`: of its first line alone where the case lends no table.
+// The length of the case's answer, put at the front of `out`: of what asking answers, or of the listing of `message`, its first line alone where the
+// case lends no table.
 fn answer(run: Run, message: &[u8], out: &mut [u8]) -> usize {
+    if run.asks {
+        return values::answer(message, run.field, out);
+    }
     if !run.lends {
         let judged = reading::judge(message);
         let said = judged.said;
