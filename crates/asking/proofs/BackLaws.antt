@@ -25,7 +25,7 @@ use Rattle.asking.proofs.PartLaws.{asked-one}
 use Rattle.asking.proofs.ReadCases.{ReadAs, asByte, asShort, asInt, asLong, asFloat, asDouble, asBoolean, asChar8, asChar16, asFloatUnit, asDoubleUnit}
 
 -- a string that stands somewhere is the part there
-part-back : {s : List ℕ} {at : ℕ} (l : List ℕ) → Stands s at l → take (length l) (drop at s) ≡ l
+pub part-back : {s : List ℕ} {at : ℕ} (l : List ℕ) → Stands s at l → take (length l) (drop at s) ≡ l
 part-back {s} {at} l st =
     let fits = st .fits in
     let e : length (take (length l) (drop at s)) ≡ length l = simp (length-take, length-drop) (omega arith) in

@@ -8,4 +8,5 @@ pub mod ReadCases
 pub mod NotNumbers
 pub mod ByteLaws
 pub mod BackLaws
+pub mod AloneLaws
 pub mod Promises

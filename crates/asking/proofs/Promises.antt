@@ -1,18 +1,23 @@
 -- The promises hold since asking takes field k of a reading, and the value of a field turns on its code and its bytes alone.
-use Prim.Native.Nat.{ℕ}
-use mathlib.Core.Path.{_≡_, ap, sym, _∙_, subst}
+use Prim.Native.Nat.{ℕ, _+_, _-_}
+use mathlib.Core.Path.{_≡_, refl, ap, sym, _∙_, subst}
 use native.Mathlib.Omega.{arith}
 use lib.ListN.{length, take, drop, length-take, length-drop}
 use Rattle.sim0mq.specs.Answer.{Answer, fine, _>>=_}
-use Rattle.sim0mq.specs.Field.{Field}
+use Rattle.sim0mq.specs.Field.{Field, after, field}
+use Rattle.sim0mq.specs.Allowed.{fieldBytes}
+use Rattle.sim0mq.proofs.Stands.{stands-self}
+use Rattle.sim0mq.proofs.FieldLaws.{fieldAt, after-at, field-complete}
 use Rattle.asking.specs.Scalars.{scalarOf, value}
-use Rattle.asking.specs.Promises.{Asking-agrees-with-reading, View-is-row-k, Not-a-number-exactly, Value-gives-back-its-bytes}
+use Rattle.asking.specs.Promises.{Asking-agrees-with-reading, View-is-row-k, Not-a-number-exactly, ownBytes, Value-is-its-bytes, Value-gives-back-its-bytes}
 use Rattle.asking.specs.declared.scalars.Scalar.the-variants.{NotNumber}
 use Rattle.asking.proofs.AskLaws.{asked-refused, asked-nth, nth-past, nth-past-only, nth-finds, nth-row}
-use Rattle.asking.proofs.BackLaws.{value-back}
+use Rattle.asking.proofs.AloneLaws.{value-alone}
+use Rattle.asking.proofs.BackLaws.{part-back, value-back}
 use Rattle.asking.proofs.NotNumbers.{nan-only, nan-always}
-use Rattle.asking.proofs.PartLaws.{asked-inside}
+use Rattle.asking.proofs.PartLaws.{asked-parts, asked-inside}
 use Rattle.asking.proofs.ReadCases.{read-as}
+use Rattle.asking.proofs.StandingLaws.{asked-standing}
 
 -- asking is reading, and then field k of what was read
 pub asking-agrees-with-reading : Asking-agrees-with-reading
@@ -36,6 +41,21 @@ not-a-number-exactly s f c = (
   λ e. nan-only s f c (read-as s f (NotNumber c) e),
   λ h. nan-always s f (h .1) ∙ ap (λ (k : ℕ). fine (NotNumber k)) (sym (h .0)),
 )
+
+-- the field's parts are the same where they stand and by themselves
+pub value-is-its-bytes : Value-is-its-bytes
+unfolding after
+value-is-its-bytes s k f q =
+    let x = asked-parts s k f q in
+    let p = x .parts in
+    let l = fieldBytes p in
+    let end : f .first + f .size ≡ f .place + length l = ap after (x .says) ∙ after-at (f .place) p in
+    let long : f .first + f .size - f .place ≡ length l = omega arith in
+    let own : ownBytes s f ≡ l = ap (λ (n : ℕ). take n (drop (f .place) s)) long ∙ part-back l (x .there) in
+    let judged : field l 0 ≡ fine (fieldAt 0 p) = field-complete p (x .is) (stands-self l) in
+    let code : p .code ≡ f .code = sym (ap (λ (g : Field). g .code) (x .says)) in
+    let first : f .first ≡ f .place + (fieldAt 0 p) .first = ap (λ (g : Field). g .first) (x .says) ∙ omega arith in
+    rw (own, judged) (value-alone s l f (fieldAt 0 p) (asked-standing s k f q) (x .there) code refl first end)
 
 -- the field's code says how its bytes were read, and each way of reading is undone by writing
 pub value-gives-back-its-bytes : Value-gives-back-its-bytes

@@ -7,8 +7,8 @@ use mathlib.Core.Logic.{_↔_, _⊎_}
 use mathlib.Core.List.{List}
 use lib.ListN.{length, take, drop}
 use lib.Ieee.{binary32, binary64, nanBits}
-use Rattle.sim0mq.specs.Answer.{fine, refused, byte, big}
-use Rattle.sim0mq.specs.Field.{Field}
+use Rattle.sim0mq.specs.Answer.{Answer, fine, refused, _>>=_, byte, big}
+use Rattle.sim0mq.specs.Field.{Field, after, field}
 use Rattle.sim0mq.specs.Table.{row, rowSize, rows}
 use Rattle.sim0mq.specs.Message.{noTable, Reading, reading}
 use Rattle.asking.specs.Asking.{asked, viewOf}
@@ -45,6 +45,19 @@ HoldsNaN s f =
 -- The value is told to be no number, with the field's code, exactly where its bits are a NaN's.
 abbrev pub Not-a-number-exactly : Type 0
 Not-a-number-exactly = (s : List ℕ) (f : Field) (c : ℕ) → (scalarOf s f ≡ fine (NotNumber c)) ↔ ((c ≡ f .code) × HoldsNaN s f)
+
+-- The bytes of a field, and the value that these bytes have by themselves: they are judged as a field, and its value is told.
+abbrev pub ownBytes : List ℕ → Field → List ℕ
+ownBytes s f = take (after f - f .place) (drop (f .place) s)
+
+abbrev pub valueAlone : List ℕ → Answer Scalar
+valueAlone l = do
+  f ← field l 0
+  scalarOf l f
+
+-- A value is determined by its field's bytes: it is the one that they have by themselves, whatever else the message holds.
+abbrev pub Value-is-its-bytes : Type 0
+Value-is-its-bytes = (s : List ℕ) (k : ℕ) (f : Field) → asked s k ≡ fine f → scalarOf s f ≡ valueAlone (ownBytes s f)
 
 -- The value's bytes are those of the field's view, and its mark's bytes are those that stand between the field's code and its first value byte.
 pub record WritesBack (s : List ℕ) (f : Field) (v : Scalar) : Type 0 where
