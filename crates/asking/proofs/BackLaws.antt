@@ -43,7 +43,7 @@ unfolding flatMap
 no-marks [] e = refl
 no-marks (m ∷ ms) e = absurd (omega arith)
 
-one-mark : (s : List ℕ) (at : ℕ) (ms : List (List ℕ)) → length ms ≡ 1 → Each IsMark ms → Stands s at (joined ms)
+pub one-mark : (s : List ℕ) (at : ℕ) (ms : List (List ℕ)) → length ms ≡ 1 → Each IsMark ms → Stands s at (joined ms)
     → (m : List ℕ) × IsMark m × Stands s at m × (length (joined ms) ≡ length m)
 unfolding flatMap
 one-mark s at [] e none st = absurd (omega arith)

@@ -1,27 +1,23 @@
 -- A field that was asked for stands in the message, since its parts do: its value bytes are there, and its mark before them.
 use Prim.Native.Nat.{ℕ, _+_, _≤_}
 use mathlib.Core.Path.{_≡_, ap, _∙_}
-use mathlib.Core.List.{List, [], _∷_, flatMap}
+use mathlib.Core.List.{List, []}
 use native.Mathlib.Omega.{arith}
-use lib.ListN.{length, length-append}
+use lib.ListN.{length}
 use Rattle.sim0mq.specs.Answer.{fine}
 use Rattle.sim0mq.specs.Codes.{countsOf, markingOf}
 use Rattle.sim0mq.specs.Field.{Field}
-use Rattle.sim0mq.specs.Allowed.{Each, none, more, IsMark, withDisplay, withCurrency, withBoth, joined, marksAsked}
+use Rattle.sim0mq.specs.Allowed.{IsMark, withDisplay, withCurrency, withBoth, marksAsked}
 use Rattle.asking.specs.Asking.{asked}
 use Rattle.asking.specs.Scalars.{Standing}
 use Rattle.asking.proofs.PartLaws.{asked-inside, asked-one}
+use Rattle.asking.proofs.BackLaws.{one-mark}
 
 -- a mark has two bytes or more
 mark-long : {m : List ℕ} → IsMark m → 2 ≤ length m
 mark-long (withDisplay k d) = omega arith
 mark-long (withCurrency k c) = omega arith
 mark-long (withBoth k c d) = omega arith
-
-one-mark : (ms : List (List ℕ)) → Each IsMark ms → length ms ≡ 1 → 2 ≤ length (joined ms)
-unfolding flatMap
-one-mark [] none e = absurd (omega arith)
-one-mark (m ∷ ms) (more a b) e = let h = mark-long a in omega (arith, length-append m (joined ms))
 
 pub asked-standing : (s : List ℕ) (k : ℕ) (f : Field) → asked s k ≡ fine f → Standing s f
 unfolding marksAsked
@@ -31,6 +27,8 @@ asked-standing s k f q =
     after-mark : countsOf (f .code) ≡ 0 → markingOf (f .code) ≡ 1 → f .place + 3 ≤ f .first
     after-mark z m =
         let one = asked-one s k f q z in
-        let two = one-mark (one .marks) (one .are) (one .many ∙ ap (λ (n : ℕ). marksAsked n []) m) in
+        let mark = one-mark s (f .place + 1) (one .marks) (one .many ∙ ap (λ (n : ℕ). marksAsked n []) m) (one .are) (one .there) in
+        let two = mark-long (mark .1) in
+        let long = mark .3 in
         let first = one .first in
         omega arith
