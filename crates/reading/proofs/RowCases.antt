@@ -87,7 +87,7 @@ module _ (s : List ℕ) where
 
 -- the fields that an accepted payload has from a place on: none, or one more
 module _ (s : List ℕ) (at : ℕ) where
-  fields-none : (n : ℕ) → n ≡ 0 → taken (payloadFrom s n at) ≡ []
+  pub fields-none : (n : ℕ) → n ≡ 0 → taken (payloadFrom s n at) ≡ []
   unfolding payloadFrom
   fields-none n e = rw e (none (leb (length s) at))
     where

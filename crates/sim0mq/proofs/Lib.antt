@@ -10,3 +10,6 @@ pub mod Only
 pub mod Demand2
 pub mod Refusals
 pub mod Demand1
+pub mod BlankLaws
+pub mod BuildLaws
+pub mod Demand3

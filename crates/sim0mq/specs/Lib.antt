@@ -12,3 +12,4 @@ pub mod Allowed
 pub mod Examples
 pub mod Demand1
 pub mod Demand2
+pub mod Demand3

@@ -1,0 +1,91 @@
+-- The message is judged whole; then it is copied, and the fields of its payload are wiped in the copy.
+use borrow.Author.Needs.{needs}
+use native.Mathlib.Omega.{arith}
+use mathlib.Core.Path.{refl, sym, ap, _∙_}
+use lib.ListN.{length}
+use Rattle.sim0mq.specs.Blank.{outputAfter}
+use Rattle.reading.specs.declared.Judgement.{Judgement}
+use Rattle.reading.proofs.AnswerCases.{part-all, judged-refused, judged-accepted, next-within}
+use Rattle.blanking.specs.Blanking.{lengthOf}
+use Rattle.blanking.proofs.BlankCases.{blank-refused, blank-short, blank-wipeable, blank-copied}
+use Rattle.blanking.proofs.blank.Statement.{statement}
+use Rattle.blanking.proofs.blank.Tie as tie
+
+judged-requires : tie.Need-judged-requires
+judged-requires c κs = search needs
+
+enum-known-said : tie.Need-enum-known-said
+enum-known-said c = search needs
+
+enum-known-said-2 : tie.Need-enum-known-said-2
+enum-known-said-2 c = search needs
+
+refuse-requires : tie.Need-refuse-requires
+refuse-requires c κs = search needs
+
+returns : tie.Need-returns
+unfolding lengthOf outputAfter
+returns c =
+    let w = judged-accepted _ _ _ (sym (ap (λ (j : Judgement). j .said) (c .before .before .before .before .before .judged .ensures)) ∙ c .before .before .before .said2 .given .1) in
+    let short = blank-short _ _ (w .0) (w .1) (c .before .if1 .taken) in
+    (c .refuse .ensures ∙ sym (ap lengthOf short), sym (ap (outputAfter (c .before .before .before .before .before .before .before .before .args .out .now)) short))
+
+copy-requires : tie.Need-copy-requires
+copy-requires c κs = search needs
+
+sub-wipe-fields : tie.Need-sub-wipe-fields
+sub-wipe-fields c =
+    let w = judged-accepted _ _ _ (sym (ap (λ (j : Judgement). j .said) (c .before .before .before .before .before .before .before .before .judged .ensures)) ∙ c .before .before .before .before .before .before .said2 .given .1) in
+    let next = ap (λ (j : Judgement). j .next) (c .before .before .before .before .before .before .before .before .judged .ensures) ∙ w .2 in
+    let within = next-within _ _ (w .0) (w .1) in
+    omega arith
+
+part-wipe-fields-start : tie.Need-part-wipe-fields-start
+part-wipe-fields-start c =
+    let w = judged-accepted _ _ _ (sym (ap (λ (j : Judgement). j .said) (c .before .before .before .before .before .before .before .before .judged .ensures)) ∙ c .before .before .before .before .before .before .said2 .given .1) in
+    let next = ap (λ (j : Judgement). j .next) (c .before .before .before .before .before .before .before .before .judged .ensures) ∙ w .2 in
+    let within = next-within _ _ (w .0) (w .1) in
+    omega arith
+
+part-wipe-fields-end : tie.Need-part-wipe-fields-end
+part-wipe-fields-end c = search needs
+
+wipe-fields-requires : tie.Need-wipe-fields-requires
+wipe-fields-requires c κs =
+    let w = judged-accepted _ _ _ (sym (ap (λ (j : Judgement). j .said) (c .before .before .before .before .before .before .before .before .before .before .judged .ensures)) ∙ c .before .before .before .before .before .before .before .before .said2 .given .1) in
+    let next = ap (λ (j : Judgement). j .next) (c .before .before .before .before .before .before .before .before .before .before .judged .ensures) ∙ w .2 in
+    blank-wipeable _ 0 (w .0) (w .1) _ _ _ next (w .3) (part-all (c .before .before .before .before .before .before .before .before .before .before .before .before .before .args .message .now) _) _ (omega arith)
+
+returns-2 : tie.Need-returns-2
+unfolding lengthOf outputAfter
+returns-2 c =
+    let stopped = judged-refused _ _ _ _ (sym (ap (λ (j : Judgement). j .said) (c .before .before .before .judged .ensures)) ∙ c .before .said .given .1) in
+    let e = blank-refused _ (length (c .before .before .before .before .before .before .args .out .now)) _ _ stopped in
+    (sym (ap lengthOf e), sym (ap (outputAfter (c .before .before .before .before .before .before .args .out .now)) e))
+
+same-length : tie.Need-same-length
+same-length c = search needs
+
+returns-3 : tie.Need-returns-3
+returns-3 c =
+    let w = judged-accepted _ _ _ (sym (ap (λ (j : Judgement). j .said) (c .before .before .before .before .before .before .before .before .before .before .before .before .before .judged .ensures)) ∙ c .before .before .before .before .before .before .before .before .before .before .before .said2 .given .1) in
+    let next = ap (λ (j : Judgement). j .next) (c .before .before .before .before .before .before .before .before .before .before .before .before .before .judged .ensures) ∙ w .2 in
+    blank-copied _ _ (w .0) (w .1) _ _ _ next (w .3) (part-all (c .before .before .before .before .before .before .before .before .before .before .before .before .before .before .before .before .args .message .now) _) _ _ _ refl (omega arith) (c .before .before .before .before .before .before .before .copy .ensures) (c .before .before .wipe-fields .ensures)
+
+pub blank-spec : {M : Type 1} → statement M
+blank-spec =
+    tie.close
+    (tie.spec
+    judged-requires
+    enum-known-said
+    enum-known-said-2
+    refuse-requires
+    returns
+    copy-requires
+    sub-wipe-fields
+    part-wipe-fields-start
+    part-wipe-fields-end
+    wipe-fields-requires
+    returns-2
+    same-length
+    returns-3)

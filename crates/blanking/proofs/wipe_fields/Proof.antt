@@ -1,0 +1,107 @@
+-- The fields wiped so far and those still to be wiped are all of them.
+use borrow.Author.Needs.{needs}
+use native.Mathlib.Omega.{arith}
+use Prim.Native.Nat.{_+_, _-_, _≤_}
+use mathlib.Core.Path.{_≡_, refl, sym, ap, _∙_}
+use mathlib.Core.List.{map}
+use lib.ListN.{length}
+use Rattle.sim0mq.specs.Answer.{fine}
+use Rattle.sim0mq.specs.Payload.{payloadFrom, payload, moved}
+use Rattle.sim0mq.specs.Blank.{blanked}
+use Rattle.payload.specs.Items.{fielded}
+use Rattle.reading.specs.Rows.{taken}
+use Rattle.reading.proofs.RowCases.{outline-goes, fields-taken}
+use Rattle.blanking.proofs.BlankCases.{wipe-turn, wipe-end, zeroed-long}
+use Rattle.blanking.proofs.wipe_fields.Statement.{statement}
+use Rattle.blanking.proofs.wipe_fields.Tie as tie
+
+abbrev Inv-loop : tie.InvT-loop
+Inv-loop s base n out₀ left₀ at₀ out left at =
+    (blanked out₀ (map (moved base) (taken (payload s n))) ≡ blanked out (map (moved base) (taken (payloadFrom s left at))))
+    × (payloadFrom s left at ≡ fine (taken (payloadFrom s left at)))
+    × (base + length s ≤ length out₀)
+    × (length out ≡ length out₀)
+
+abbrev μ-loop : tie.MeasureT-loop
+μ-loop s base n out₀ left₀ at₀ out left at = left
+
+loop-holds : tie.Need-loop-holds Inv-loop μ-loop
+unfolding payload
+loop-holds c = (refl, c .before .before .pre .accepted, c .before .before .pre .room, refl)
+
+outline-requires : tie.Need-outline-requires Inv-loop μ-loop
+outline-requires c κs = search needs
+
+enum-told : tie.Need-enum-told Inv-loop μ-loop
+enum-told c = search needs
+
+same-length : tie.Need-same-length Inv-loop μ-loop
+same-length c = search needs
+
+returns : tie.Need-returns Inv-loop μ-loop
+returns c = absurd (fields-taken _ _ _ (c .before .before .before .before .loop .left - 1) _ _ (omega arith) (c .before .before .before .before .loop .inv .1) (sym (c .before .before .outline .ensures) ∙ ap fielded (c .enum-told .given .1)))
+
+enum-known-f : tie.Need-enum-known-f Inv-loop μ-loop
+enum-known-f c = search needs
+
+add-wipe : tie.Need-add-wipe Inv-loop μ-loop
+add-wipe c =
+    let end = outline-goes _ _ _ (sym (c .before .before .before .before .before .outline .ensures) ∙ ap fielded (c .before .before .before .f .given .1)) .3 in
+    let room = c .before .before .before .before .before .before .before .loop .inv .2 in
+    omega arith
+
+wipe-requires : tie.Need-wipe-requires Inv-loop μ-loop
+wipe-requires c κs =
+    let end = outline-goes _ _ _ (sym (c .before .before .before .before .before .outline .ensures) ∙ ap fielded (c .before .before .before .f .given .1)) .3 in
+    let room = c .before .before .before .before .before .before .before .loop .inv .2 in
+    let same = c .before .before .before .before .before .before .before .loop .inv .3 in
+    omega arith
+
+add-at : tie.Need-add-at Inv-loop μ-loop
+add-at c =
+    let end = outline-goes _ _ _ (sym (c .before .before .before .before .before .before .before .before .before .outline .ensures) ∙ ap fielded (c .before .before .before .before .before .before .before .f .given .1)) .3 in
+    let room = c .before .before .before .before .before .before .before .before .before .before .before .loop .inv .2 in
+    omega arith
+
+sub-left : tie.Need-sub-left Inv-loop μ-loop
+sub-left c = search needs
+
+loop-less : tie.Need-loop-less Inv-loop μ-loop
+loop-less c = search needs
+
+loop-again : tie.Need-loop-again Inv-loop μ-loop
+loop-again c =
+    let inv = c .before .before .before .before .before .before .before .before .before .before .before .loop .inv in
+    let outlined = sym (c .before .before .before .before .before .before .before .before .before .outline .ensures) ∙ ap fielded (c .before .before .before .before .before .before .before .f .given .1) in
+    let end = outline-goes _ _ _ outlined .3 in
+    let room = inv .2 in
+    let same = inv .3 in
+    let r = wipe-turn _ _ _ _ (c .before .before .before .wipe .last .0) _ _ _ (inv .0) (inv .1) (c .before .before .before .before .before .before .before .before .before .before .loop-test .taken) outlined (c .before .before .before .wipe .ensures) in
+    (r .0, r .1, room, ap length (c .before .before .before .wipe .ensures) ∙ zeroed-long _ _ _ (omega arith) ∙ same)
+
+same-length-2 : tie.Need-same-length-2 Inv-loop μ-loop
+same-length-2 c = search needs
+
+returns-2 : tie.Need-returns-2 Inv-loop μ-loop
+returns-2 c = sym (wipe-end _ _ _ _ _ _ (c .before .loop .inv .0) (omega arith))
+
+pub wipe-fields-spec : {M : Type 1} → statement M
+wipe-fields-spec =
+    tie.close
+    (tie.spec
+    Inv-loop
+    μ-loop
+    loop-holds
+    outline-requires
+    enum-told
+    same-length
+    returns
+    enum-known-f
+    add-wipe
+    wipe-requires
+    add-at
+    sub-left
+    loop-less
+    loop-again
+    same-length-2
+    returns-2)
