@@ -25,7 +25,7 @@ zeros-long : (n : ℕ) → length (zeros n) ≡ n
 zeros-long n = length-replicate {A = ℕ} n 0
 
 -- one run of zeros: the length stays, the run is zero, and what lies before and after it stays
-zeroed-long : (s : List ℕ) (at n : ℕ) → at + n ≤ length s → length (zeroed s at n) ≡ length s
+pub zeroed-long : (s : List ℕ) (at n : ℕ) → at + n ≤ length s → length (zeroed s at n) ≡ length s
 unfolding zeroed
 zeroed-long s at n h =
     let a : length (take at s) ≡ at = length-take-le at s (omega arith) in
@@ -88,7 +88,7 @@ abbrev pub Inside : ℕ → Field → Type 0
 Inside n f = f .first + f .size ≤ n
 
 -- fields inside of n bytes are inside of as many
-inside-to : {n k : ℕ} {fs : List Field} → n ≡ k → Each (Inside n) fs → Each (Inside k) fs
+pub inside-to : {n k : ℕ} {fs : List Field} → n ≡ k → Each (Inside n) fs → Each (Inside k) fs
 inside-to {fs = fs} e x = subst (λ (j : ℕ). Each (Inside j) fs) e x
 
 -- the copy is as long

@@ -11,7 +11,8 @@ use Rattle.sim0mq.specs.Blank.{blanked}
 use Rattle.payload.specs.Items.{fielded}
 use Rattle.reading.specs.Rows.{taken}
 use Rattle.reading.proofs.RowCases.{outline-goes, fields-taken}
-use Rattle.blanking.proofs.BlankCases.{wipe-turn, wipe-end, zeroed-long}
+use Rattle.sim0mq.proofs.BlankLaws.{zeroed-long}
+use Rattle.blanking.proofs.BlankCases.{wipe-turn, wipe-end}
 use Rattle.blanking.proofs.wipe_fields.Statement.{statement}
 use Rattle.blanking.proofs.wipe_fields.Tie as tie
 
