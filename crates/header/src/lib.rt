@@ -1,6 +1,6 @@
 // The header: the eight frames, in and out as an array by value.
 ghost use mathlib.Core.Path.{_≡_};
-ghost use Rattle.sim0mq.specs.Header.{among as amongOf, digit as digitOf, magic as magicOf, frame as frameOf, status as statusOf, header as headerOf};
+ghost use Rattle.sim0mq.specs.Header.{idCodes, among as amongOf, digit as digitOf, magic as magicOf, frame as frameOf, status as statusOf, header as headerOf};
 ghost use Rattle.sim0mq.specs.Views.{judged};
 ghost use Rattle.payload.specs.Items.{fielded};
 ghost use Rattle.header.specs.Frames.{literalEnd, editionEnd, NoBoolean, nthFrame, counted, declaredNumber, headerRest, refusedAs, told};
@@ -206,12 +206,19 @@ fn declared(s: &[u8], at: usize) -> Counted
     }
 }
 
+// The id frame at `at`, one of frames 1 to 4.
+pub fn id(s: &[u8], at: usize) -> Fielded
+    ensures { λ r. ⌜ fielded r ≡ frameOf (now (s .entry)) idCodes at ⌝ }
+{
+    typed(s, &ID_CODES, at)
+}
+
 // Frame k, one of 1 to 6, at `at`.
 fn nth(s: &[u8], k: usize, at: usize) -> Fielded
     ensures { λ r. ⌜ fielded r ≡ nthFrame (now (s .entry)) k at ⌝ }
 {
     if k <= 4 {
-        return typed(s, &ID_CODES, at);
+        return id(s, at);
     }
     if k == 5 {
         return typed(s, &NUMBER_CODES, at);

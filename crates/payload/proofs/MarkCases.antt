@@ -6,12 +6,19 @@ use mathlib.Core.List.{List}
 use native.Mathlib.Omega.{arith}
 use native.Mathlib.Numerals.{add-one}
 use native.Mathlib.Nat.{not-suc-le-zero}
-use lib.ListN.{length, getD}
-use lib.Dec.{leb}
+use lib.ListN.{length, getD, List·getD-eq-default}
+use lib.Dec.{leb, eqb}
 use borrow.Author.Tests.{leb-true, le-leb, lt-leb, ne-eqb}
 use Rattle.sim0mq.specs.Answer.{fine, refused, byte, big}
-use Rattle.sim0mq.specs.Mark.{perRow, Kind, plain, money, moneyPer, unknown, kindOf, currencyTaken, displayTaken, currency, display, markRest, mark, marks}
+use Rattle.sim0mq.specs.Mark.{lastRow, perRow, Kind, plain, money, moneyPer, unknown, kindOf, currencyTaken, displayTaken, currency, display, markRest, mark, marks}
 use Rattle.sim0mq.proofs.Rows.{allPass, pass-any}
+
+-- past the row of last display codes only 0 is taken
+pub display-past : (t d : ℕ) → 28 < t → displayTaken t d ≡ eqb d 0
+unfolding displayTaken
+display-past t zero h = rw (List·getD-eq-default lastRow 0 {n = t} (omega arith)) refl
+display-past t (suc d) h =
+    rw (List·getD-eq-default lastRow 0 {n = t} (omega arith), lt-leb (suc d) 0 (omega arith), ne-eqb (suc d) 0 (λ e. omega arith)) refl
 
 module _ (s : List ℕ) where
   pub display-short : (t at : ℕ) → length s ≤ at → display s t at ≡ refused 1 (length s)

@@ -10,17 +10,19 @@ use crate::tables::PERS;
 use sim0mq::Judged;
 
 // Whether c is a currency code.
-fn currency_taken(c: usize) -> bool
+pub fn currency_taken(c: usize) -> bool
     ensures { λ r. ⌜ r ≡ currencyTaken c ⌝ }
 {
     if c < 1 { false } else { c <= 1000 }
 }
 
 // Whether d is a display code of unit type t.
-fn display_taken(t: usize, d: u8) -> bool
-    requires { ⌜ t < 29 ⌝ }
+pub fn display_taken(t: usize, d: u8) -> bool
     ensures { λ r. ⌜ r ≡ displayTaken t d ⌝ }
 {
+    if 28 < t {
+        return d == 0;
+    }
     d <= LASTS[t]
 }
 
