@@ -5,7 +5,8 @@ use mathlib.Core.List.{List, [], _∷_, _++_, append-assoc, map}
 use native.Mathlib.Omega.{arith}
 use lib.ListN.{length, take, drop, replicate, length-drop}
 use lib.Seq.{take-append-le, drop-append-le}
-use borrow.Author.Tests.{le-leb, lt-leb}
+use lib.Dec.{leb}
+use borrow.Author.Tests.{le-leb, lt-leb, leb-true}
 use Rattle.sim0mq.specs.Answer.{fine, refused}
 use Rattle.sim0mq.specs.Field.{Field, after, outline}
 use Rattle.sim0mq.specs.Payload.{payloadFrom, payload, moved}
@@ -14,7 +15,8 @@ use Rattle.sim0mq.specs.Table.{stored}
 use Rattle.sim0mq.specs.Blank.{zeroed, blanked, blanking, outputAfter}
 use Rattle.sim0mq.specs.Allowed.{Each, none, more}
 use Rattle.sim0mq.proofs.BlankLaws.{Inside, inside-to, zeroed-long, blanked-long}
-use Rattle.sim0mq.proofs.Demand3.{inside}
+use Rattle.sim0mq.proofs.Answers.{fine-eq, bind-fine, guarded}
+use Rattle.sim0mq.proofs.Demand3.{inside, copy-is-blank}
 use Rattle.reading.specs.Answers.{Whole, whole}
 use Rattle.reading.specs.Rows.{taken}
 use Rattle.reading.proofs.RowCases.{fields-none, fields-next}
@@ -95,3 +97,16 @@ module _ (s : List ℕ) (room : ℕ) where
             rw (fine-is, long) refl,
             v ∙ rw (fields, c, front) (rw (fine-is, long) refl),
           )
+
+-- a copy that was made fits in the room that there was for it
+pub copy-fits : (room : ℕ) (s : List ℕ) (n : ℕ) → lengthOf (blanking room s) ≡ fine n → n ≤ room
+unfolding lengthOf blanking
+copy-fits room s n e =
+    let a = bind-fine (blanking room s) _ e in
+    let b = bind-fine (reading noTable s) _ (a .1) in
+    let c = guarded (leb (length s) room) 14 0 _ (b .2) in
+    let long = copy-is-blank s (b .0) (b .1) .long in
+    let same = ap length (fine-eq (c .1)) in
+    let told = fine-eq (a .2) in
+    let fits = leb-true (length s) room (c .0) in
+    omega arith

@@ -1,4 +1,5 @@
 // Runs the cases of cases.txt and prints each that goes wrong, then how many there are and how many of them are wrong.
+mod copies;
 mod tokens;
 mod values;
 mod words;
@@ -35,6 +36,9 @@ struct Run {
     // Whether it asks for a field, and for which.
     asks: bool,
     field: usize,
+    // Whether its message is blanked, and how many bytes the output has.
+    blanks: bool,
+    output: usize,
 }
 
 // Nothing run yet.
@@ -54,6 +58,8 @@ fn start() -> Run {
         room: ROOM,
         asks: false,
         field: 0,
+        blanks: false,
+        output: 0,
     }
 }
 
@@ -107,6 +113,9 @@ fn deed(text: &[u8], line: &[u8], run: Run, message: &mut [u8], expected: &mut [
     if starts(line, b"asks ") {
         return asks(line, run);
     }
+    if starts(line, b"blanks ") {
+        return blanks(line, run);
+    }
     if starts(line, b"gives ") {
         return gives(line, run, expected);
     }
@@ -138,6 +147,7 @@ fn case(run: Run) -> Run {
     after.lends = true;
     after.room = ROOM;
     after.asks = false;
+    after.blanks = false;
     after
 }
 
@@ -205,6 +215,18 @@ fn asks(line: &[u8], run: Run) -> Run {
     after
 }
 
+// `blanks N`: the message is blanked into an output of N bytes.
+fn blanks(line: &[u8], run: Run) -> Run {
+    let n = last(line, 7);
+    if copies::ROOM < n {
+        return lost(run);
+    }
+    let mut after = run;
+    after.blanks = true;
+    after.output = n;
+    after
+}
+
 // `gives TEXT`: one more line of the text that is expected.
 fn gives(line: &[u8], run: Run, expected: &mut [u8]) -> Run {
     let mut at = listing::put(part(line, 6, line.len()), expected, run.expects);
@@ -217,7 +239,7 @@ fn gives(line: &[u8], run: Run, expected: &mut [u8]) -> Run {
     after
 }
 
-// `end`: the case is run, and its listing, or what asking answers, compared.
+// `end`: the case is run, and its listing, or what asking or blanking answers, compared.
 fn end(text: &[u8], run: Run, message: &[u8], expected: &[u8]) -> Run {
     let mut told = [0u8; 16384];
     let n = answer(run, part(message, 0, run.length), &mut told);
@@ -239,11 +261,14 @@ fn end(text: &[u8], run: Run, message: &[u8], expected: &[u8]) -> Run {
     after
 }
 
-// The length of the case's answer, put at the front of `out`: of what asking answers, or of the listing of `message`, its first line alone where the
-// case lends no table.
+// The length of the case's answer, put at the front of `out`: of what asking or blanking answers, or of the listing of `message`, its first line alone
+// where the case lends no table.
 fn answer(run: Run, message: &[u8], out: &mut [u8]) -> usize {
     if run.asks {
         return values::answer(message, run.field, out);
+    }
+    if run.blanks {
+        return copies::answer(message, run.output, out);
     }
     if !run.lends {
         let judged = reading::judge(message);

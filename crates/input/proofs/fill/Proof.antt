@@ -1,11 +1,11 @@
--- list::fill meets its contract and ends: each turn but the last reads a byte at least. The invariant: what was read stands within the buffer, which keeps its length.
+-- input::fill meets its contract and ends: each turn but the last reads a byte at least. The invariant: what was read stands within the buffer, which keeps its length.
 -- Assumes nothing.
 use Prim.Native.Nat.{_-_, _≤_}
 use mathlib.Core.Path.{_≡_}
 use lib.ListN.{length}
 use borrow.Author.Needs.{needs}
-use Rattle.list.proofs.fill.Statement.{statement}
-use Rattle.list.proofs.fill.Tie as tie
+use Rattle.input.proofs.fill.Statement.{statement}
+use Rattle.input.proofs.fill.Tie as tie
 
 abbrev Inv-loop : tie.InvT-loop
 Inv-loop buf₀ at₀ buf at = (at ≤ length buf) × (length buf ≡ length buf₀)

@@ -2,8 +2,8 @@
 use Prim.Native.Nat.{ℕ, _≤_}
 use mathlib.Core.List.{List}
 use lib.ListN.{length}
-use Rattle.list.specs.declared.Input.{Input}
-use Rattle.list.specs.declared.Input.the-variants.{Bytes, Failed}
+use Rattle.input.specs.declared.Input.{Input}
+use Rattle.input.specs.declared.Input.the-variants.{Bytes, Failed}
 
 -- no more bytes came than the buffer has
 abbrev pub Within : Input → List ℕ → Type 0
