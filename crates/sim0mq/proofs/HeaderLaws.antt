@@ -74,7 +74,7 @@ magic-sound s go {v} q =
     )
 
 -- a frame after 0
-frame-complete : {s codes : List ℕ} {at : ℕ} {f : FieldParts} → IsFrame codes f → Stands s at (fieldBytes f)
+pub frame-complete : {s codes : List ℕ} {at : ℕ} {f : FieldParts} → IsFrame codes f → Stands s at (fieldBytes f)
     → frame s codes at ≡ fine (fieldAt at f)
 unfolding frame
 frame-complete {s} {codes} {at} {f} i st =
@@ -82,7 +82,7 @@ frame-complete {s} {codes} {at} {f} i st =
     simp (le-leb (at + 1) (length s) (omega arith), stands-head st, i .allowed, field-complete f (i .isField) st)
 
 -- a judge that passed a frame went on with a frame's parts
-frame-sound : {B : Type 0} (s codes : List ℕ) (at : ℕ) (go : Field → Answer B) {v : B} → (frame s codes at >>= go) ≡ fine v
+pub frame-sound : {B : Type 0} (s codes : List ℕ) (at : ℕ) (go : Field → Answer B) {v : B} → (frame s codes at >>= go) ≡ fine v
     → (f : FieldParts) × IsFrame codes f × Stands s at (fieldBytes f) × (go (fieldAt at f) ≡ fine v)
 unfolding frame
 frame-sound s codes at go {v} q =
@@ -98,7 +98,7 @@ frame-sound s codes at go {v} q =
     )
 
 -- a frame's value bytes stand where its field says
-values-there : {s : List ℕ} {at : ℕ} (f : FieldParts) → Stands s at (fieldBytes f) → Stands s (fieldAt at f .first) (f .values)
+pub values-there : {s : List ℕ} {at : ℕ} (f : FieldParts) → Stands s at (fieldBytes f) → Stands s (fieldAt at f .first) (f .values)
 values-there f st =
     stands-right (joined (f .marks)) (f .values) (stands-right (joined (f .counts)) (joined (f .marks) ++ f .values) (stands-tail st))
 
@@ -108,7 +108,7 @@ unfolding valuesAsked
 no-counts [] w e = omega arith
 no-counts (x ∷ xs) w e = absurd (omega arith)
 
-scalar-size : (f : FieldParts) → IsField f → countsOf (f .code) ≡ 0 → length (f .values) ≡ widthOf (f .code)
+pub scalar-size : (f : FieldParts) → IsField f → countsOf (f .code) ≡ 0 → length (f .values) ≡ widthOf (f .code)
 scalar-size f i e = i .sized ∙ no-counts (f .counts) (widthOf (f .code)) (i .counted ∙ e)
 
 first-value : {s : List ℕ} {at : ℕ} (f : FieldParts) → IsField f → (countsOf (f .code) ≡ 0) × (1 ≤ widthOf (f .code))

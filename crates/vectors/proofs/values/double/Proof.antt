@@ -1,6 +1,6 @@
 -- vectors::values::double is safe: a double that does not differ from itself has bits.
 use borrow.Author.Needs.{needs}
-use Rattle.vectors.proofs.Nan.{no-nan}
+use Rattle.asking.proofs.Nan.{no-nan}
 use Rattle.vectors.proofs.values.double.Statement.{statement}
 use Rattle.vectors.proofs.values.double.Tie as tie
 

@@ -1,0 +1,4 @@
+pub mod PlaceLaws
+pub mod OpenCases
+pub mod AddCases
+pub mod EncodeCases

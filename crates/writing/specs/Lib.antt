@@ -1,0 +1,3 @@
+pub mod Scalars
+pub mod Writing
+pub mod Puts

@@ -1,0 +1,112 @@
+// The opening of a message: its judge, and its header.
+ghost use mathlib.Core.Path.{_≡_};
+ghost use Prim.Native.Nat.{_≤_};
+ghost use lib.ListN.{length};
+ghost use Rattle.sim0mq.specs.Views.{judged};
+ghost use Rattle.writing.specs.Writing.{idsFrom, countCode, headerWith, placed};
+ghost use Rattle.writing.specs.Puts.{numbersJudged, openingJudged};
+use crate::CountType;
+use crate::puts::bits;
+use crate::puts::put;
+use crate::puts::put_number;
+use header::id;
+use payload::fields::Fielded;
+use payload::numbers::wide;
+use payload::tables::WIDTHS;
+use sim0mq::Judged;
+
+const FRAME_0: [u8; 10] = [9, 0, 0, 0, 5, 83, 73, 77, 48, 49];
+
+// The type code of the declared count.
+pub(crate) fn code_of(kind: CountType) -> u8
+    ensures { λ r. ⌜ r ≡ countCode kind ⌝ }
+{
+    match kind {
+        CountType::Unstated => 1,
+        CountType::Stated(code) => code,
+    }
+}
+
+// The four id frames, with nothing after them: the place after them.
+fn id_frames(s: &[u8]) -> Judged
+    ensures { λ r. ⌜ judged r ≡ idsFrom (now (s .entry)) 4 0 ⌝ }
+{
+    let mut left: usize = 4;
+    let mut at: usize = 0;
+    while 0 < left {
+        match id(s, at) {
+            Fielded::Refused(r) => {
+                return Judged::Refused(r);
+            }
+            Fielded::Accepted(f) => {
+                at = f.first + f.size;
+            }
+        }
+        left -= 1;
+    }
+    if at < s.len() {
+        return sim0mq::refuse(13, at);
+    }
+    Judged::Accepted(at)
+}
+
+// The length of a header whose ids have n bytes; or the refusal of its status, its count's type, its count, its length, or the room.
+fn judge_numbers(n: usize, status: u8, code: u8, fields: usize, room: usize) -> Judged
+    ensures { λ r. ⌜ judged r ≡ numbersJudged n status code fields room ⌝ }
+{
+    if status < 1 {
+        return sim0mq::refuse(6, 0);
+    }
+    if 3 < status {
+        return sim0mq::refuse(6, 0);
+    }
+    if 2 < code {
+        return sim0mq::refuse(4, 0);
+    }
+    if 256 < fields {
+        return sim0mq::refuse(7, 0);
+    }
+    if code == 0 {
+        if 127 < fields {
+            return sim0mq::refuse(7, 0);
+        }
+    }
+    let front = 22 + WIDTHS[wide(code)];
+    if 32768 - front < n {
+        return sim0mq::refuse(8, 0);
+    }
+    if room < front + n {
+        return sim0mq::refuse(14, 0);
+    }
+    Judged::Accepted(front + n)
+}
+
+// The length of the header that these ids, this status and this count ask for; or the refusal.
+pub(crate) fn judge_opening(ids: &[u8], status: u8, code: u8, fields: usize, room: usize) -> Judged
+    ensures { λ r. ⌜ judged r ≡ openingJudged (now (ids .entry)) status code fields room ⌝ }
+{
+    match id_frames(ids) {
+        Judged::Refused(r) => Judged::Refused(r),
+        Judged::Accepted(_) => judge_numbers(ids.len(), status, code, fields, room),
+    }
+}
+
+// The header at the front of `out`.
+pub(crate) fn put_header(
+    ids: &[u8],
+    number: i64,
+    status: u8,
+    code: u8,
+    fields: usize,
+    out: &mut [u8],
+)
+    requires { ⌜ (code ≤ 2) × (length (headerWith (now ids) number status code fields) ≤ length (now out)) ⌝ }
+    ensures { λ _. ⌜ now (out .exit) ≡ placed (now (out .entry)) 0 (headerWith (now (ids .entry)) number status code fields) ⌝ }
+{
+    put(&FRAME_0, out, 0);
+    put(ids, out, 10);
+    let at = 10 + ids.len();
+    put_number(out, at, 3, 8, bits(number, 18446744073709551615));
+    put_number(out, at + 9, 0, 1, status as u64);
+    put_number(out, at + 11, code, WIDTHS[wide(code)], fields as u64);
+}

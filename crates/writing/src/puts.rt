@@ -1,0 +1,50 @@
+// Texts and numbers put into a buffer.
+ghost use mathlib.Core.Path.{_≡_};
+ghost use Prim.Native.Nat.{_+_, _≤_};
+ghost use lib.ListN.{length};
+ghost use Rattle.asking.specs.Bytes.{bigBytes};
+ghost use Rattle.writing.specs.Writing.{numberText, placed};
+ghost use Rattle.writing.specs.Puts.{bitsUpTo, HeldUpTo};
+
+// The bits of z in a width whose largest number is `most`.
+pub(crate) fn bits(z: i64, most: u64) -> u64
+    requires { ⌜ HeldUpTo most z ⌝ }
+    ensures { λ r. ⌜ r ≡ bitsUpTo most z ⌝ }
+{
+    if 0 <= z {
+        return z as u64;
+    }
+    let below = -1 - z;
+    most - (below as u64)
+}
+
+// The bytes of `text` in `out` from `at` on.
+pub(crate) fn put(text: &[u8], out: &mut [u8], at: usize)
+    requires { ⌜ at + length (now text) ≤ length (now out) ⌝ }
+    ensures { λ _. ⌜ now (out .exit) ≡ placed (now (out .entry)) at (now (text .entry)) ⌝ }
+{
+    bytes::copy(text, &mut out[at..]);
+}
+
+// The n bytes that x is written in, the first weighing most, in `out` from `at` on.
+pub(crate) fn put_big(out: &mut [u8], at: usize, n: usize, x: u64)
+    requires { ⌜ at + n ≤ length (now out) ⌝ }
+    ensures { λ _. ⌜ now (out .exit) ≡ placed (now (out .entry)) at (bigBytes n x) ⌝ }
+{
+    let mut left = n;
+    let mut rest = x;
+    while 0 < left {
+        left -= 1;
+        out[at + left] = (rest % 256) as u8;
+        rest = rest / 256;
+    }
+}
+
+// A field that is one number of n bytes, its code and the number, in `out` from `at` on.
+pub(crate) fn put_number(out: &mut [u8], at: usize, code: u8, n: usize, x: u64)
+    requires { ⌜ at + 1 + n ≤ length (now out) ⌝ }
+    ensures { λ _. ⌜ now (out .exit) ≡ placed (now (out .entry)) at (numberText code n x) ⌝ }
+{
+    out[at] = code;
+    put_big(out, at + 1, n, x);
+}
