@@ -56,7 +56,7 @@ unfolding bigBytes
 boolean-back x n h e = ap (λ (y : ℕ). y ∷ []) (omega arith)
 
 -- a number of one byte is that byte
-one-byte : (s : List ℕ) (at : ℕ) → big s at 1 ≡ byte s at
+pub one-byte : (s : List ℕ) (at : ℕ) → big s at 1 ≡ byte s at
 unfolding big
 one-byte s at = zero-add (byte s (at + 0)) ∙ ap (λ (n : ℕ). getD s n 0) (add-zero at)
 

@@ -68,6 +68,9 @@ module _ (w : Width) (z : ℤ) (f : SFits w z) where
   pub wider : (v : Width) → 2 ^ hbits w ≤ 2 ^ hbits v → toZ v (ofZ v (toZ w (ofZ w z))) ≡ z
   wider v h = toZ-ofZ v (toZ w (ofZ w z)) (widened w z f v h) ∙ toZ-ofZ w z f
 
+  pub bits-are : (v : ℕ) → bitsUpTo (2 ^ v - 1) (toZ w (ofZ w z)) ≡ bitsOf v z
+  bits-are v = ap (bitsUpTo (2 ^ v - 1)) (toZ-ofZ w z f) ∙ bits-of v z
+
   pub held : (most : ℕ) (y : ℤ) → y ≡ z → 2 ^ hbits w ≤ most → HeldUpTo most y
   held most y e h = rw e (held-by most z (omega (arith, f .sfits)))
 

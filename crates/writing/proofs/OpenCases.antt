@@ -1,18 +1,14 @@
 -- How opening answers, case by case, in the words of the code's tests; its length is that of the header, whose pieces stand one after the other.
-use Prim.Native.Nat.{ℕ, zero, suc, _+_, _-_, _^_, _≤_, _<_}
+use Prim.Native.Nat.{ℕ, zero, suc, _+_, _-_, _≤_, _<_}
 use mathlib.Core.Path.{_≡_, refl, ap, sym, _∙_}
 use mathlib.Core.Bool.{Bool, true, false, _&&_}
 use mathlib.Core.List.{List, _++_, append-assoc}
 use native.Mathlib.Omega.{arith}
 use native.Mathlib.Numerals.{add-one}
-use lib.IntN.{ℤ, pos, negsuc}
-use lib.Signed.{mag}
+use lib.IntN.{ℤ}
 use lib.ListN.{length, length-append}
 use lib.Dec.{leb}
 use borrow.Author.Tests.{le-leb, lt-leb, lt-ltb, le-ltb, leb-true, ne-eqb}
-use mir.Syntax.{Width}
-use mir.Val.{SFits, toZ, ofZ, hbits}
-use mir.ValLaws.{toZ-ofZ}
 use Rattle.sim0mq.specs.Answer.{Answer, fine, refused, _>>=_, _>>_, guard}
 use Rattle.sim0mq.specs.Codes.{widthOf}
 use Rattle.sim0mq.specs.Field.{Field, after}
@@ -26,7 +22,7 @@ use Rattle.header.proofs.FrameCases.{nth-id, nth-goes}
 use Rattle.asking.specs.Bytes.{bitsOf}
 use Rattle.writing.specs.declared.Wrote.{Wrote}
 use Rattle.writing.specs.Writing.{Opening, idsFrom, countCode, holds, numberText, headerWith, headerText, fitting, opening, placed}
-use Rattle.writing.specs.Puts.{numbersJudged, openingJudged, bitsUpTo, HeldUpTo}
+use Rattle.writing.specs.Puts.{numbersJudged, openingJudged}
 use Rattle.writing.proofs.PlaceLaws.{placed-on, big-length}
 
 -- the id frames from `at` on: a refused one, the next one, bytes after the last, no byte after it
@@ -237,20 +233,3 @@ module _ (o : Opening) (room c : ℕ) (e : c ≡ countCode (o .kind)) where
             leb-true _ 2 (pass-among (λ (k : ℕ). leb k 2) countCodes (countCode (o .kind)) refl (t .0)),
             omega arith,
           )
-
--- the bits of a signed number that a local holds
-module _ (v : Width) (z : ℤ) (f : SFits v z) where
-  pub bits-held : (most : ℕ) → 2 ^ hbits v ≤ most + 1 → HeldUpTo most (toZ v (ofZ v z))
-  bits-held most h = rw (toZ-ofZ v z f) (go z (f .sfits))
-    where
-      go : (y : ℤ) → mag y < 2 ^ hbits v → HeldUpTo most y
-      go (pos n) k = tt
-      go (negsuc n) k = omega arith
-
-  pub bits-are : (w most : ℕ) → most + 1 ≡ 2 ^ w → bitsUpTo most (toZ v (ofZ v z)) ≡ bitsOf w z
-  unfolding bitsUpTo bitsOf
-  bits-are w most e = rw (toZ-ofZ v z f) (go z)
-    where
-      go : (y : ℤ) → bitsUpTo most y ≡ bitsOf w y
-      go (pos n) = refl
-      go (negsuc n) = omega arith

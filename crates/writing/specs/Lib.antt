@@ -1,3 +1,5 @@
 pub mod Scalars
 pub mod Writing
 pub mod Puts
+pub mod History
+pub mod Promises

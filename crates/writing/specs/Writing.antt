@@ -1,13 +1,13 @@
 -- The writer (01, "The writer"): what opening, adding and closing answer, the state that each hands back, and what it leaves in the buffer.
 use Prim.Native.Nat.{ℕ, zero, suc, _+_, _-_, _*_, _^_}
 use mathlib.Core.Bool.{Bool, true, false, not, _&&_}
-use mathlib.Core.List.{List, [], _∷_, _++_}
+use mathlib.Core.List.{List, _∷_, _++_}
 use lib.Dec.{leb, ltb, eqb}
 use lib.IntN.{ℤ}
 use lib.ListN.{length, take, drop}
 use Rattle.sim0mq.specs.Answer.{Answer, fine, refused, _>>=_, _>>_, guard}
 use Rattle.sim0mq.specs.Codes.{widthOf}
-use Rattle.sim0mq.specs.Field.{Field, after}
+use Rattle.sim0mq.specs.Field.{after}
 use Rattle.sim0mq.specs.Payload.{payload}
 use Rattle.sim0mq.specs.Header.{idCodes, countCodes, among, statusTaken, fieldsTaken, frame}
 use Rattle.sim0mq.specs.Message.{limit}

@@ -1,10 +1,12 @@
 -- The header is put piece by piece, each where the one before ends.
 use borrow.Author.Needs.{needs}
 use native.Mathlib.Omega.{arith}
-use mathlib.Core.Path.{refl, ap, _∙_}
+use mathlib.Core.Path.{ap, _∙_}
 use mir.Syntax.{w64}
 use Rattle.sim0mq.specs.Codes.{widthOf}
-use Rattle.writing.proofs.OpenCases.{header-within, header-placed, bits-held, bits-are}
+use mir.ValLaws.{toZ-ofZ}
+use Rattle.writing.proofs.EncodeCases.{bits-are, held}
+use Rattle.writing.proofs.OpenCases.{header-within, header-placed}
 use Rattle.writing.proofs.frames.put_header.Statement.{statement}
 use Rattle.writing.proofs.frames.put_header.Tie as tie
 
@@ -21,7 +23,7 @@ add-at : tie.Need-add-at
 add-at c = search needs
 
 bits-requires : tie.Need-bits-requires
-bits-requires c κs = let start = c .before .before .before .before .before .before .before .before .before .before .before .before in bits-held w64 (start .args .number) (start .fits .number) _ (omega arith)
+bits-requires c κs = let start = c .before .before .before .before .before .before .before .before .before .before .before .before in held w64 (start .args .number) (start .fits .number) _ _ (toZ-ofZ w64 (start .args .number) (start .fits .number)) (omega arith)
 
 put-number-requires : tie.Need-put-number-requires
 put-number-requires c κs = let room = header-within _ _ _ _ _ _ (c .before .before .before .before .before .before .before .before .before .before .before .before .before .pre .1) in omega arith
@@ -58,7 +60,7 @@ returns : tie.Need-returns
 unfolding widthOf
 returns c =
     let start = c .before .before .before .before .before .before .before .before .before .before .before .before .before .before .before .before .before .before .before .before .before .before .before .before .before in
-    let number = c .before .before .before .before .before .before .before .before .before .before .before .before .bits .ensures ∙ bits-are w64 (start .args .number) (start .fits .number) 64 _ refl in
+    let number = c .before .before .before .before .before .before .before .before .before .before .before .before .bits .ensures ∙ bits-are w64 (start .args .number) (start .fits .number) 64 in
     let width = ap widthOf (c .before .before .before .wide .ensures .0) in
     header-placed _ _ _ _ _ _ _ _ _ _ _ _ _ number width (start .pre .1) (c .before .before .before .before .before .before .before .before .before .before .before .before .before .before .before .before .before .before .before .before .put .ensures) (c .before .before .before .before .before .before .before .before .before .before .before .before .before .before .before .before .put2 .ensures) (c .before .before .before .before .before .before .before .before .before .before .before .put-number .ensures) (c .before .before .before .before .before .before .before .put-number2 .ensures) (c .before .before .put-number3 .ensures)
 
