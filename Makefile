@@ -1,5 +1,6 @@
-# make: prove the crates, build the programs and list a sample message. make test: the gate, from nothing, with the must-fail edits.
-.PHONY: all test
+# make: prove the crates, build the programs and list a sample message. make test: the gate, from nothing, with the must-fail edits. make calls: every
+# public call with its contract.
+.PHONY: all test calls
 
 all:
 	@rt check
@@ -7,3 +8,6 @@ all:
 
 test:
 	@.ci/run
+
+calls:
+	@tools/public-calls

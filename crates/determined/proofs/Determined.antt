@@ -1,0 +1,222 @@
+-- The contract of a public call is an equation for its result and for each buffer that it may write, so any two outcomes that it allows are equal.
+use mathlib.Core.Path.{_≡_, ap, sym, _∙_}
+use denote.Ref.{now}
+use Rattle.sim0mq.specs.Answer.{Answer, refused}
+use Rattle.sim0mq.specs.Views.{judged}
+use Rattle.sim0mq.specs.declared.Refusal.{Refusal}
+use Rattle.sim0mq.specs.declared.Judged.{Judged}
+use Rattle.sim0mq.specs.declared.Judged.the-variants.{Accepted, Refused}
+use Rattle.sim0mq.proofs.Answers.{not-fine, fine-eq}
+use Rattle.payload.specs.Items.{headed, fielded}
+use Rattle.payload.specs.declared.fields.Headed.{Headed}
+use Rattle.payload.specs.declared.fields.Headed.the-variants.{Accepted as Headed·Accepted, Refused as Headed·Refused}
+use Rattle.payload.specs.declared.fields.Fielded.{Fielded}
+use Rattle.payload.specs.declared.fields.Fielded.the-variants.{Accepted as Fielded·Accepted, Refused as Fielded·Refused}
+use Rattle.asking.specs.Scalars.{valued}
+use Rattle.asking.specs.declared.scalars.Value.{Value}
+use Rattle.asking.specs.declared.scalars.Value.the-variants.{Is, Refused as Value·Refused}
+use Rattle.sim0mq.proofs.refuse.Reads as sim0mq-refuse
+use Rattle.payload.proofs.payload.Reads as payload
+use Rattle.payload.proofs.fields.head.Reads as head
+use Rattle.payload.proofs.fields.size.Reads as size
+use Rattle.payload.proofs.fields.values.Reads as values
+use Rattle.payload.proofs.fields.outline.Reads as outline
+use Rattle.payload.proofs.marks.mark.Reads as mark
+use Rattle.payload.proofs.marks.marks.Reads as marks
+use Rattle.payload.proofs.marks.currency_taken.Reads as currency-taken
+use Rattle.payload.proofs.marks.display_taken.Reads as display-taken
+use Rattle.payload.proofs.numbers.wide.Reads as wide
+use Rattle.payload.proofs.numbers.number.Reads as number
+use Rattle.payload.proofs.numbers.count.Reads as count
+use Rattle.header.proofs.header.Reads as header
+use Rattle.header.proofs.id.Reads as id
+use Rattle.reading.proofs.judged.Reads as judgement
+use Rattle.reading.proofs.read.Reads as read
+use Rattle.reading.proofs.judge.Reads as judge
+use Rattle.asking.proofs.ask.Reads as ask
+use Rattle.asking.proofs.view.Reads as view
+use Rattle.asking.proofs.value.Reads as value
+use Rattle.blanking.proofs.blank.Reads as blank
+use Rattle.writing.proofs.Writer.open.Reads as opening
+use Rattle.writing.proofs.Writer.add.Reads as add
+use Rattle.writing.proofs.Writer.add_scalar.Reads as add-scalar
+use Rattle.writing.proofs.Writer.close.Reads as close
+use Rattle.listing.proofs.put.Reads as put
+use Rattle.listing.proofs.number.Reads as decimal
+use Rattle.listing.proofs.listing.Reads as listing
+use Rattle.listing.proofs.first_line.Reads as first-line
+
+-- A contract says of an outcome, the result z and the parameters e at exit, whether it is allowed at the arguments a and the lifetimes κs.
+-- It determines what is seen of an outcome where any two that it allows at the same arguments look the same.
+abbrev pub Determines : {K : Type 0} {A Z E X : K → Type 0} → ((κs : K) → A κs → Z κs → E κs → Type 0) → ((κs : K) → Z κs → E κs → X κs) → Type 0
+Determines {K} {A} {Z} {E} contract seen =
+    (κs : K) (a : A κs) (z z′ : Z κs) (e e′ : E κs) → contract κs a z e → contract κs a z′ e′ → seen κs z e ≡ seen κs z′ e′
+
+-- It does so where it equates a view of what is seen, which tells all of it apart, with a definition of the arguments.
+pub determined : {K : Type 0} {A Z E X Y : K → Type 0} (contract : (κs : K) → A κs → Z κs → E κs → Type 0) (seen : (κs : K) → Z κs → E κs → X κs)
+    (view : (κs : K) → X κs → Y κs) → ((κs : K) (x y : X κs) → view κs x ≡ view κs y → x ≡ y) → (means : (κs : K) → A κs → Y κs)
+    → ((κs : K) (a : A κs) (z : Z κs) (e : E κs) → contract κs a z e → view κs (seen κs z e) ≡ means κs a) → Determines contract seen
+determined contract seen view apart means told κs a z z′ e e′ p p′ = apart κs _ _ (told κs a z e p ∙ sym (told κs a z′ e′ p′))
+
+-- Most contracts equate the thing itself.
+pub equated : {K : Type 0} {A Z E X : K → Type 0} (contract : (κs : K) → A κs → Z κs → E κs → Type 0) (seen : (κs : K) → Z κs → E κs → X κs)
+    (means : (κs : K) → A κs → X κs)
+    → ((κs : K) (a : A κs) (z : Z κs) (e : E κs) → contract κs a z e → seen κs z e ≡ means κs a) → Determines contract seen
+equated contract seen means told = determined contract seen (λ κs x. x) (λ κs x y q. q) means told
+
+-- The views of answers tell them apart: two refusals of one number at one place are one.
+same-refusal : {A : Type 0} (r q : Refusal) → _≡_ {A = Answer A} (refused (r .number) (r .place)) (refused (q .number) (q .place)) → r ≡ q
+same-refusal r q e = let n : r .number ≡ q .number = cc in let p : r .place ≡ q .place = cc in λ i. record { number = n i; place = p i }
+
+judged-apart : (x y : Judged) → judged x ≡ judged y → x ≡ y
+judged-apart (Accepted n) (Accepted m) e = cc
+judged-apart (Accepted n) (Refused r) e = absurd (not-fine (sym e))
+judged-apart (Refused r) (Accepted n) e = absurd (not-fine e)
+judged-apart (Refused r) (Refused q) e = ap Refused (same-refusal r q e)
+
+fielded-apart : (x y : Fielded) → fielded x ≡ fielded y → x ≡ y
+fielded-apart (Fielded·Accepted f) (Fielded·Accepted g) e =
+    let s = fine-eq e in
+    λ i. Fielded·Accepted (record { code = s i .code; place = s i .place; first = s i .first; size = s i .size; marked = s i .marked; values = s i .values })
+fielded-apart (Fielded·Accepted f) (Fielded·Refused r) e = absurd (not-fine (sym e))
+fielded-apart (Fielded·Refused r) (Fielded·Accepted g) e = absurd (not-fine e)
+fielded-apart (Fielded·Refused r) (Fielded·Refused q) e = ap Fielded·Refused (same-refusal r q e)
+
+headed-apart : (x y : Headed) → headed x ≡ headed y → x ≡ y
+headed-apart (Headed·Accepted f) (Headed·Accepted g) e =
+    let s = fine-eq e in
+    λ i. Headed·Accepted (record { code = s i .code; values = s i .values; marked = s i .marked; next = s i .next })
+headed-apart (Headed·Accepted f) (Headed·Refused r) e = absurd (not-fine (sym e))
+headed-apart (Headed·Refused r) (Headed·Accepted g) e = absurd (not-fine e)
+headed-apart (Headed·Refused r) (Headed·Refused q) e = ap Headed·Refused (same-refusal r q e)
+
+valued-apart : (x y : Value) → valued x ≡ valued y → x ≡ y
+valued-apart (Is v) (Is w) e = cc
+valued-apart (Is v) (Value·Refused r) e = absurd (not-fine (sym e))
+valued-apart (Value·Refused r) (Is w) e = absurd (not-fine e)
+valued-apart (Value·Refused r) (Value·Refused q) e = ap Value·Refused (same-refusal r q e)
+
+-- The calls of crate sim0mq.
+pub sim0mq-refuse-result : Determines sim0mq-refuse.Post (λ κs z e. z)
+sim0mq-refuse-result = determined sim0mq-refuse.Post (λ κs z e. z) (λ κs. judged) (λ κs. judged-apart) _ (λ κs a z e p. p)
+
+-- The calls of crate payload.
+pub payload-result : Determines payload.Post (λ κs z e. z)
+payload-result = determined payload.Post (λ κs z e. z) (λ κs. judged) (λ κs. judged-apart) _ (λ κs a z e p. p .0)
+
+pub head-result : Determines head.Post (λ κs z e. z)
+head-result = determined head.Post (λ κs z e. z) (λ κs. headed) (λ κs. headed-apart) _ (λ κs a z e p. p)
+
+pub size-result : Determines size.Post (λ κs z e. z)
+size-result = determined size.Post (λ κs z e. z) (λ κs. judged) (λ κs. judged-apart) _ (λ κs a z e p. p)
+
+pub values-result : Determines values.Post (λ κs z e. z)
+values-result = determined values.Post (λ κs z e. z) (λ κs. judged) (λ κs. judged-apart) _ (λ κs a z e p. p)
+
+pub outline-result : Determines outline.Post (λ κs z e. z)
+outline-result = determined outline.Post (λ κs z e. z) (λ κs. fielded) (λ κs. fielded-apart) _ (λ κs a z e p. p)
+
+pub mark-result : Determines mark.Post (λ κs z e. z)
+mark-result = determined mark.Post (λ κs z e. z) (λ κs. judged) (λ κs. judged-apart) _ (λ κs a z e p. p)
+
+pub marks-result : Determines marks.Post (λ κs z e. z)
+marks-result = determined marks.Post (λ κs z e. z) (λ κs. judged) (λ κs. judged-apart) _ (λ κs a z e p. p)
+
+pub currency-taken-result : Determines currency-taken.Post (λ κs z e. z)
+currency-taken-result = equated currency-taken.Post (λ κs z e. z) _ (λ κs a z e p. p)
+
+pub display-taken-result : Determines display-taken.Post (λ κs z e. z)
+display-taken-result = equated display-taken.Post (λ κs z e. z) _ (λ κs a z e p. p)
+
+pub wide-result : Determines wide.Post (λ κs z e. z)
+wide-result = equated wide.Post (λ κs z e. z) _ (λ κs a z e p. p .0)
+
+pub number-result : Determines number.Post (λ κs z e. z)
+number-result = equated number.Post (λ κs z e. z) _ (λ κs a z e p. p .0)
+
+pub count-result : Determines count.Post (λ κs z e. z)
+count-result = determined count.Post (λ κs z e. z) (λ κs. judged) (λ κs. judged-apart) _ (λ κs a z e p. p .0)
+
+-- The calls of crate header.
+pub header-result : Determines header.Post (λ κs z e. z)
+header-result = equated header.Post (λ κs z e. z) _ (λ κs a z e p. p)
+
+pub id-result : Determines id.Post (λ κs z e. z)
+id-result = determined id.Post (λ κs z e. z) (λ κs. fielded) (λ κs. fielded-apart) _ (λ κs a z e p. p)
+
+-- The calls of crate reading.
+pub judgement-result : Determines judgement.Post (λ κs z e. z)
+judgement-result = equated judgement.Post (λ κs z e. z) _ (λ κs a z e p. p)
+
+pub read-result : Determines read.Post (λ κs z e. z)
+read-result = equated read.Post (λ κs z e. z) _ (λ κs a z e p. p .0)
+
+pub read-table : Determines read.Post (λ κs z e. now (e .1 .0))
+read-table = equated read.Post (λ κs z e. now (e .1 .0)) _ (λ κs a z e p. p .1)
+
+pub judge-result : Determines judge.Post (λ κs z e. z)
+judge-result = equated judge.Post (λ κs z e. z) _ (λ κs a z e p. p)
+
+-- The calls of crate asking.
+pub ask-result : Determines ask.Post (λ κs z e. z)
+ask-result = determined ask.Post (λ κs z e. z) (λ κs. fielded) (λ κs. fielded-apart) _ (λ κs a z e p. p)
+
+pub view-result : Determines view.Post (λ κs z e. now z)
+view-result = equated view.Post (λ κs z e. now z) _ (λ κs a z e p. p)
+
+pub value-result : Determines value.Post (λ κs z e. z)
+value-result = determined value.Post (λ κs z e. z) (λ κs. valued) (λ κs. valued-apart) _ (λ κs a z e p. p)
+
+-- The calls of crate blanking.
+pub blank-result : Determines blank.Post (λ κs z e. z)
+blank-result = determined blank.Post (λ κs z e. z) (λ κs. judged) (λ κs. judged-apart) _ (λ κs a z e p. p .0)
+
+pub blank-out : Determines blank.Post (λ κs z e. now (e .1 .0))
+blank-out = equated blank.Post (λ κs z e. now (e .1 .0)) _ (λ κs a z e p. p .1)
+
+-- The calls of crate writing.
+pub opening-result : Determines opening.Post (λ κs z e. z)
+opening-result = equated opening.Post (λ κs z e. z) _ (λ κs a z e p. p .0)
+
+pub opening-out : Determines opening.Post (λ κs z e. now (e .1 .1 .1 .1 .1 .0))
+opening-out = equated opening.Post (λ κs z e. now (e .1 .1 .1 .1 .1 .0)) _ (λ κs a z e p. p .1)
+
+pub add-result : Determines add.Post (λ κs z e. z)
+add-result = equated add.Post (λ κs z e. z) _ (λ κs a z e p. p .0)
+
+pub add-out : Determines add.Post (λ κs z e. now (e .1 .1 .0))
+add-out = equated add.Post (λ κs z e. now (e .1 .1 .0)) _ (λ κs a z e p. p .1)
+
+pub add-scalar-result : Determines add-scalar.Post (λ κs z e. z)
+add-scalar-result = equated add-scalar.Post (λ κs z e. z) _ (λ κs a z e p. p .0)
+
+pub add-scalar-out : Determines add-scalar.Post (λ κs z e. now (e .1 .1 .0))
+add-scalar-out = equated add-scalar.Post (λ κs z e. now (e .1 .1 .0)) _ (λ κs a z e p. p .1)
+
+pub close-result : Determines close.Post (λ κs z e. z)
+close-result = equated close.Post (λ κs z e. z) _ (λ κs a z e p. p)
+
+-- The calls of crate listing.
+pub put-result : Determines put.Post (λ κs z e. z)
+put-result = equated put.Post (λ κs z e. z) _ (λ κs a z e p. p .0)
+
+pub put-out : Determines put.Post (λ κs z e. now (e .1 .0))
+put-out = equated put.Post (λ κs z e. now (e .1 .0)) _ (λ κs a z e p. p .1)
+
+pub decimal-result : Determines decimal.Post (λ κs z e. z)
+decimal-result = equated decimal.Post (λ κs z e. z) _ (λ κs a z e p. p .0)
+
+pub decimal-out : Determines decimal.Post (λ κs z e. now (e .1 .0))
+decimal-out = equated decimal.Post (λ κs z e. now (e .1 .0)) _ (λ κs a z e p. p .1)
+
+pub listing-result : Determines listing.Post (λ κs z e. z)
+listing-result = equated listing.Post (λ κs z e. z) _ (λ κs a z e p. p .1 .0)
+
+pub listing-out : Determines listing.Post (λ κs z e. now (e .1 .1 .0))
+listing-out = equated listing.Post (λ κs z e. now (e .1 .1 .0)) _ (λ κs a z e p. p .1 .1)
+
+pub first-line-result : Determines first-line.Post (λ κs z e. z)
+first-line-result = equated first-line.Post (λ κs z e. z) _ (λ κs a z e p. p .1 .0)
+
+pub first-line-out : Determines first-line.Post (λ κs z e. now (e .1 .0))
+first-line-out = equated first-line.Post (λ κs z e. now (e .1 .0)) _ (λ κs a z e p. p .1 .1)
