@@ -7,7 +7,8 @@ use lib.ListN.{length}
 use Rattle.sim0mq.specs.Answer.{refused}
 use Rattle.sim0mq.specs.Table.{rowSize}
 use Rattle.sim0mq.specs.Header.{among}
-use Rattle.sim0mq.specs.Message.{limit, Lent, noTable, table, reading}
+use Rattle.sim0mq.specs.Message.{limit, Lent, noTable, table, reading, tableAfter}
+use Rattle.sim0mq.specs.Blank.{blanking, outputAfter}
 use Rattle.sim0mq.specs.Allowed.{HeaderParts, headerBytes, IsHeader}
 
 -- The numbers that 01 lists for judging a message; and those for reading, with 14 only where a table is lent.
@@ -29,3 +30,11 @@ abbrev pub Short-table-is-refused : Type 0
 Short-table-is-refused =
     (h : HeaderParts) (n r : ℕ) (rest : List ℕ) → IsHeader n h → length (headerBytes h ++ rest) ≤ limit → r < rowSize * n
     → reading (table r) (headerBytes h ++ rest) ≡ refused 14 0
+
+-- A refusal changes no lent buffer: not the table of reading, and not the output of blanking.
+abbrev pub Refusal-keeps-the-table : Type 0
+Refusal-keeps-the-table = (lent : Lent) (s t : List ℕ) (number place : ℕ) → reading lent s ≡ refused number place → tableAfter t (reading lent s) ≡ t
+
+abbrev pub Refusal-keeps-the-output : Type 0
+Refusal-keeps-the-output =
+    (room : ℕ) (s out : List ℕ) (number place : ℕ) → blanking room s ≡ refused number place → outputAfter out (blanking room s) ≡ out

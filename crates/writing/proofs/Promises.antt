@@ -1,7 +1,7 @@
 -- The promises hold since every point of a history is known, and what reading finds in a finished message was written so.
-use mathlib.Core.Path.{sym, _∙_}
+use mathlib.Core.Path.{refl, sym, _∙_}
 use mathlib.Core.Bool.{false≢true}
-use Rattle.writing.specs.Promises.{Finished-reads-back, Buffer-holds-what-was-written, No-message-without-closing, Rewriting-gives-the-same}
+use Rattle.writing.specs.Promises.{Finished-reads-back, Buffer-holds-what-was-written, No-message-without-closing, Rewriting-gives-the-same, Refused-call-changes-nothing}
 use Rattle.writing.proofs.HistoryLaws.{known}
 use Rattle.writing.proofs.ReadLaws.{reads-back}
 use Rattle.writing.proofs.RewriteLaws.{rewriting}
@@ -18,3 +18,14 @@ no-message-without-closing o out p s h none end = false≢true (sym (known h .un
 -- each field of an accepted message is a field that adding takes, and its header one that opening writes
 pub rewriting-gives-the-same : Rewriting-gives-the-same
 rewriting-gives-the-same = rewriting
+
+-- a refusal writes nothing and hands back what it took
+pub refused-call-changes-nothing : Refused-call-changes-nothing
+refused-call-changes-nothing o w out g number place =
+    record {
+      opened = λ q. rw q refl;
+      shut = λ q. rw q refl;
+      added = λ q. rw q refl;
+      kept = λ q. rw q refl;
+      unclosed = λ q. rw q refl;
+    }

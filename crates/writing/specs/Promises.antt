@@ -1,13 +1,15 @@
--- What writing promises (demand 2): what the writer finished reads back as it was given, and rewriting an accepted message gives the same bytes.
+-- What writing promises: what the writer finished reads back as it was given, and rewriting an accepted message gives the same bytes (demand 2); and a
+-- refused call changes nothing (demand 1).
 -- Each statement here is proved in proofs/Promises.antt.
 use Prim.Native.Nat.{ℕ, _+_, _-_, _<_, _≤_, _^_}
 use mathlib.Core.Path.{_≡_}
+use mathlib.Core.Bool.{true}
 use mathlib.Core.List.{List, [], _∷_, _++_, map, flatMap}
 use lib.Dec.{T}
 use lib.Ieee.{binary32, binary64, fits}
 use lib.IntN.{ℤ, pos, negsuc}
 use lib.ListN.{length, take, drop, getD}
-use Rattle.sim0mq.specs.Answer.{fine, byte, big}
+use Rattle.sim0mq.specs.Answer.{fine, refused, byte, big}
 use Rattle.sim0mq.specs.Codes.{widthOf}
 use Rattle.sim0mq.specs.Field.{Field}
 use Rattle.sim0mq.specs.Header.{Frame}
@@ -16,9 +18,10 @@ use Rattle.asking.specs.Promises.{ownBytes}
 use Rattle.asking.specs.Scalars.{twos, value}
 use Rattle.asking.specs.declared.scalars.Scalar.{Scalar}
 use Rattle.asking.specs.declared.scalars.Scalar.the-variants.{Byte, Short, Int, Long, Float, Double, Boolean, Char8, Char16, FloatUnit, DoubleUnit, NotNumber}
-use Rattle.writing.specs.Writing.{Opening, countCode, headerText, opening, Given, encoded, scalar}
+use Rattle.writing.specs.Writing.{Opening, countCode, headerText, opening, afterOpening, Given, encoded, scalar, adding, afterAdding, closing, afterClosing, bufferAfter}
 use Rattle.writing.specs.History.{Point, start, adds, closes, History, afterCalls, Finished, bytesOf}
 use Rattle.writing.specs.declared.CountType.the-variants.{Stated}
+use Rattle.writing.specs.declared.Writer.{Writer}
 
 -- A signed number of w bits; and a scalar whose numbers lie in their widths, as the types of the code see to.
 abbrev pub InWidth : ℕ → ℤ → Type 0
@@ -109,3 +112,15 @@ pub record Rewrites (s : List ℕ) (m : Reading) (out : List ℕ) : Type 0 where
 abbrev pub Rewriting-gives-the-same : Type 0
 Rewriting-gives-the-same =
     (s out : List ℕ) (m : Reading) → ((i : ℕ) → byte s i < 256) → reading noTable s ≡ fine m → length s ≤ length out → Rewrites s m out
+
+-- A refused call changes no byte, and hands back the state that it took; a refused opening, a closed state with every number 0.
+pub record RefusalKeeps (o : Opening) (w : Writer) (out : List ℕ) (g : Given) (number place : ℕ) : Type 0 where
+  pub opened : opening o (length out) ≡ refused number place → bufferAfter out 0 (opening o (length out)) ≡ out
+  pub shut : opening o (length out) ≡ refused number place
+      → afterOpening o (opening o (length out)) .writer ≡ record { written = 0; declared = 0; added = 0; closed = true }
+  pub added : adding w (length out) g ≡ refused number place → bufferAfter out (w .written) (adding w (length out) g) ≡ out
+  pub kept : adding w (length out) g ≡ refused number place → afterAdding w (adding w (length out) g) .writer ≡ w
+  pub unclosed : closing w ≡ refused number place → afterClosing w (closing w) .writer ≡ w
+
+abbrev pub Refused-call-changes-nothing : Type 0
+Refused-call-changes-nothing = (o : Opening) (w : Writer) (out : List ℕ) (g : Given) (number place : ℕ) → RefusalKeeps o w out g number place
