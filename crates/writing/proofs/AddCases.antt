@@ -5,7 +5,6 @@ use mathlib.Core.Bool.{Bool, true, false, not}
 use mathlib.Core.List.{List}
 use native.Mathlib.Omega.{arith}
 use lib.ListN.{length, take, drop, length-append}
-use lib.Seq.{take-at}
 use lib.Dec.{leb, ltb}
 use borrow.Author.Tests.{le-leb, lt-leb, lt-ltb, le-ltb, eq-eqb, ne-eqb, ltb-true, leb-true}
 use Rattle.sim0mq.specs.Answer.{Answer, fine, refused}
@@ -20,6 +19,7 @@ use Rattle.writing.specs.Puts.{encodedAs}
 use Rattle.writing.specs.declared.scalars.Encoded.{Encoded}
 use Rattle.writing.specs.declared.Writer.{Writer}
 use Rattle.writing.specs.declared.Wrote.{Wrote}
+use Rattle.writing.proofs.PlaceLaws.{front-stands}
 
 -- a state that takes a field: as many as declared were added, closed, too much written, and whether there is room
 module _ (w : Writer) (room : ℕ) where
@@ -93,10 +93,6 @@ module _ (l : List ℕ) where
   encoded-fine n e = simp (steps-accepted l 1 n e .1)
 
 -- a scalar, encoded where it may be written: its text is what the encoding has at the front
-front-is : (out l : List ℕ) → take (length l) (placed out 0 l) ≡ l
-unfolding placed
-front-is out l = take-at l (drop (0 + length l) out) (length l) refl
-
 front-long : (out l : List ℕ) → length l ≤ length (placed out 0 l)
 unfolding placed
 front-long out l = omega (arith, length-append l (drop (0 + length l) out))
@@ -115,7 +111,7 @@ module _ (x : Encoded) (v : Scalar) (e : x ≡ encodedAs (scalarGiven v)) where
   scalar-fine h = go (writable v) refl
     where
       go : (t : Bool) → writable v ≡ t → (fieldGiven (scalar v) ≡ fine (take (x .length) (x .bytes))) × (x .length ≤ length (x .bytes))
-      go true q = let same = rw q at e in rw (same, q) (ap fine (sym (front-is _ (scalarText v))), front-long _ (scalarText v))
+      go true q = let same = rw q at e in rw (same, q) (ap fine (sym (front-stands _ (scalarText v))), front-long _ (scalarText v))
       go false q = absurd (h (ap (λ (y : Encoded). y .length) (rw q at e)))
 
 -- closing: closed, too much written, not as many as declared, all added

@@ -20,7 +20,7 @@ use Rattle.writing.specs.Promises.{Holds}
 use Rattle.writing.specs.declared.Writer.{Writer}
 use Rattle.writing.proofs.JoinLaws.{flat-append}
 use Rattle.writing.proofs.GivenLaws.{FoundGiven, given-sound}
-use Rattle.writing.proofs.OpenLaws.{fitting-fine, Opened, opening-sound}
+use Rattle.writing.proofs.OpenLaws.{fitting-sound, Opened, opening-sound}
 
 -- a text placed where what was written ends
 grown : (x l out : List ℕ) (w : ℕ) → w ≡ length x → placed (x ++ drop w out) w l ≡ x ++ (l ++ drop (w + length l) out)
@@ -102,7 +102,7 @@ adding-sound w room g l q =
     let b = and-true (ltb (w .added) (w .declared)) _ (a .0) in
     let c = and-true (not (w .closed)) _ (b .1) in
     let d = bind-fine (fieldGiven g) _ (a .1) in
-    let e = fitting-fine (w .written) room (d .0) l (d .2) in
+    let e = fitting-sound (w .written) room (d .0) l (d .2) in
     record {
       unclosed = not-true (w .closed) (c .0);
       taken = d .1 ∙ ap fine (sym (e .0));

@@ -24,10 +24,10 @@ use Rattle.writing.proofs.JoinLaws.{flat-append}
 use Rattle.writing.proofs.IdLaws.{ids-sound}
 
 -- what fits stays within the limit and the room
-pub fitting-fine : (written room : ℕ) (text l : List ℕ) → fitting written room text ≡ fine l
+pub fitting-sound : (written room : ℕ) (text l : List ℕ) → fitting written room text ≡ fine l
     → (l ≡ text) × (written + length text ≤ limit) × (written + length text ≤ room)
 unfolding fitting
-fitting-fine written room text l q =
+fitting-sound written room text l q =
     let a = guarded (leb (written + length text) limit) _ _ _ q in
     let b = guarded (leb (written + length text) room) _ _ _ (a .1) in
     (sym (fine-eq (b .1)), leb-true _ _ (a .0), leb-true _ _ (b .0))
@@ -150,7 +150,7 @@ opening-sound o room text q =
     let c = guarded (among (countCode (o .kind)) countCodes) _ _ _ (b .1) in
     let d = guarded (fieldsTaken (o .fields) && holds (countCode (o .kind)) (o .fields)) _ _ _ (c .1) in
     let both = and-true (fieldsTaken (o .fields)) _ (d .0) in
-    let e = fitting-fine 0 room (headerText o) text (d .1) in
+    let e = fitting-sound 0 room (headerText o) text (d .1) in
     let ids = ids-sound 4 (o .ids) 0 (a .0) zero-le (a .1) in
     let end = ids .ends in
     let whole = stands-same (flatMap fieldBytes (ids .parts)) (o .ids) (omega arith) (ids .there) (stands-self (o .ids)) in

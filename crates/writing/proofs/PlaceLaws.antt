@@ -77,6 +77,11 @@ module _ (out : List ℕ) (at : ℕ) where
       (ap (λ (l : List ℕ). take at out ++ l)
       (sym (append-assoc a (x ∷ []) (drop (suc p) out)) ∙ ap (λ (k : ℕ). a ++ (x ∷ []) ++ drop k out) end))
 
+-- what is placed at the front stands there
+pub front-stands : (out text : List ℕ) → take (length text) (placed out 0 text) ≡ text
+unfolding placed
+front-stands out text = take-at text (drop (0 + length text) out) (length text) refl
+
 -- the n bytes of a number are n
 pub big-length : (n x : ℕ) → length (bigBytes n x) ≡ n
 unfolding bigBytes

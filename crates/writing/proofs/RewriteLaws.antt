@@ -7,7 +7,6 @@ use mathlib.Core.List.{List, [], _∷_, _++_, map, flatMap, append-assoc, append
 use native.Mathlib.Omega.{arith}
 use native.Mathlib.Nat.{zero-add}
 use lib.ListN.{length, take, drop, length-append}
-use lib.Seq.{take-at}
 use borrow.Author.Tests.{le-leb, lt-ltb, eq-eqb}
 use Rattle.sim0mq.specs.Answer.{fine, byte}
 use Rattle.sim0mq.specs.Message.{limit, noTable, Reading, reading}
@@ -22,7 +21,7 @@ use Rattle.writing.specs.Writing.{Opening, headerText, opening, afterOpe
 use Rattle.writing.specs.History.{Point, start, adds, closes, givenAfter, next, afterCalls}
 use Rattle.writing.specs.Promises.{framePlace, ownOpening, ownFields, rewritten, Rewrites, Rewriting-gives-the-same}
 use Rattle.writing.specs.declared.Writer.{Writer}
-use Rattle.writing.proofs.PlaceLaws.{placed-length, placed-on}
+use Rattle.writing.proofs.PlaceLaws.{placed-length, placed-on, front-stands}
 use Rattle.writing.proofs.JoinLaws.{flat-append, four-long}
 use Rattle.writing.proofs.GivenLaws.{encoded-taken, own-fields}
 use Rattle.writing.proofs.RewriteOpen.{idsOf, own-header, own-opening}
@@ -124,11 +123,6 @@ all-added out text k n gs (f ∷ fs) (more a b) many short fits =
 started : (o : Opening) (out text : List ℕ) → opening o (length out) ≡ fine text → start o out ≡ pointAt out text 0 (o .fields) []
 started o out text e = λ i. record { writer = afterOpening o (e i) .writer; buffer = bufferAfter out 0 (e i); given = []; closings = 0 }
 
--- what is placed at the front stands there
-front : (out text : List ℕ) → take (length text) (placed out 0 text) ≡ text
-unfolding placed
-front out text = take-at text (drop (0 + length text) out) (length text) refl
-
 -- frame 5 begins after the ids
 ids-end : (h : HeaderParts)
     → 10 + length (fieldBytes (h .run)) + length (fieldBytes (h .sender)) + length (fieldBytes (h .receiver)) + length (fieldBytes (h .kind))
@@ -227,7 +221,7 @@ module _ (p : MessageParts) (is : IsMessage p) (out : List ℕ) where
           same =
               record {
                 closed = ap (λ (x : Point). x .writer .closed) ends;
-                bytes = sym (ap (λ (x : Point). take (x .writer .written) (x .buffer)) ends ∙ front out s);
+                bytes = sym (ap (λ (x : Point). take (x .writer .written) (x .buffer)) ends ∙ front-stands out s);
               };
         }
 
