@@ -20,7 +20,7 @@ unfolding places
 places-under k n h = rw (lt-leb (10 ^ suc k) n h)
 
 -- as many as io counts, of at most m + 1
-pub places-fewest : (m n k : ℕ) → Fewest 10 1 n k → k ≤ suc m → places m n ≡ k
+places-fewest : (m n k : ℕ) → Fewest 10 1 n k → k ≤ suc m → places m n ≡ k
 unfolding places
 places-fewest zero n k f h = omega (arith, f .0)
 places-fewest (suc m) n k f h = go (leb k (suc m)) refl (λ l. places-fewest m n k f l)

@@ -195,7 +195,7 @@ fields-inside at n (f ∷ fs) h =
     more a (fields-inside (at + length bytes) n fs (omega (arith, length-append bytes rest)))
 
 -- a field, and a message, with zeros for payload values
-abbrev pub blankField : FieldParts → FieldParts
+abbrev blankField : FieldParts → FieldParts
 blankField f = record { code = f .code; counts = f .counts; marks = f .marks; values = zeros (length (f .values)) }
 
 abbrev pub blankParts : MessageParts → MessageParts

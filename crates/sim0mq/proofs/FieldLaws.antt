@@ -46,7 +46,7 @@ counted-eq : {v v′ c c′ p p′ : ℕ} → v ≡ v′ → c ≡ c′ → p �
 counted-eq a b d = λ i. record { values = a i; columns = b i; next = d i }
 
 -- every field is taken
-pub count-complete : {s c : List ℕ} {at : ℕ} → IsCount c → Stands s at c → count s at ≡ fine (number c)
+count-complete : {s c : List ℕ} {at : ℕ} → IsCount c → Stands s at c → count s at ≡ fine (number c)
 unfolding count
 count-complete {s} {c} {at} i st =
     let f = st .fits in

@@ -62,7 +62,7 @@ module _ (s : List ℕ) where
       (stands-right (joined (f .marks)) (f .values) fa) (stands-to q q′ (stands-right (joined (g .marks)) (g .values) gb)) in
       λ k. record { code = code k; counts = counts k; marks = marks k; values = values k }
 
-  pub fields-only : (at : ℕ) (fs gs : List FieldParts) → length fs ≡ length gs → Each IsField fs → Each IsField gs
+  fields-only : (at : ℕ) (fs gs : List FieldParts) → length fs ≡ length gs → Each IsField fs → Each IsField gs
       → Stands s at (flatMap fieldBytes fs) → Stands s at (flatMap fieldBytes gs) → fs ≡ gs
   fields-only = run-only s IsField fieldBytes field-only
 

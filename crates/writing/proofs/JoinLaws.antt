@@ -11,7 +11,7 @@ unfolding flatMap
 flat-append f [] ys = refl
 flat-append f (x ∷ xs) ys = ap (λ (l : List ℕ). f x ++ l) (flat-append f xs ys) ∙ sym (append-assoc (f x) (flatMap f xs) (flatMap f ys))
 
-pub flat-joined : {A : Type 0} (f : A → List ℕ) (xs : List A) → flatMap f xs ≡ joined (map f xs)
+flat-joined : {A : Type 0} (f : A → List ℕ) (xs : List A) → flatMap f xs ≡ joined (map f xs)
 unfolding flatMap
 flat-joined f [] = refl
 flat-joined f (x ∷ xs) = ap (λ (l : List ℕ). f x ++ l) (flat-joined f xs)

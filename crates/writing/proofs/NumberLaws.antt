@@ -2,7 +2,7 @@
 use Prim.Native.Nat.{ℕ, zero, suc, _+_, _-_, _*_, _/_, _%_, _<_, _≤_, _^_}
 use mathlib.Core.Path.{_≡_, refl, ap, sym, _∙_, subst}
 use mathlib.Core.Bool.{true, false, false≢true}
-use mathlib.Core.List.{List, [], _∷_, _++_, flatMap}
+use mathlib.Core.List.{List, [], _∷_, _++_}
 use native.Mathlib.Omega.{arith}
 use native.Mathlib.Nat.{div-add-mod'}
 use lib.ListN.{length, getD, List·getD-append}
@@ -11,11 +11,10 @@ use lib.IntN.{ℤ, pos, negsuc}
 use borrow.Author.Tests.{lt-ltb, le-ltb}
 use Rattle.sim0mq.specs.Answer.{big}
 use Rattle.sim0mq.specs.Codes.{codeKnown, countsOf, markingOf, widthOf, boolean}
-use Rattle.sim0mq.specs.Allowed.{numberAfter, number, Each, none, IsMark, FieldParts, fieldBytes, valuesAsked, marksAsked, IsField}
+use Rattle.sim0mq.specs.Allowed.{numberAfter, number, Each, none, IsMark, FieldParts, valuesAsked, marksAsked, IsField}
 use Rattle.sim0mq.proofs.Stands.{Stands, big-number}
 use Rattle.asking.specs.Scalars.{twos}
 use Rattle.asking.specs.Bytes.{bigBytes, bitsOf}
-use Rattle.writing.specs.Writing.{numberText}
 use Rattle.writing.specs.Promises.{InWidth}
 use Rattle.writing.proofs.PlaceLaws.{big-length}
 
@@ -88,11 +87,6 @@ marked-is c ms n x known counted marked isMarks width notBoolean =
 -- a field that is one number
 abbrev pub numberParts : ℕ → ℕ → ℕ → FieldParts
 numberParts c n x = markedParts c [] n x
-
--- its bytes
-pub number-bytes : (c n x : ℕ) → fieldBytes (numberParts c n x) ≡ numberText c n x
-unfolding flatMap
-number-bytes c n x = refl
 
 -- the manual allows it
 pub number-is : (c n x : ℕ) → codeKnown c ≡ true → countsOf c ≡ 0 → markingOf c ≡ 0 → widthOf c ≡ n → boolean c ≡ false → IsField (numberParts c n x)

@@ -122,7 +122,7 @@ module _ (ids : List ℕ) (status c fields room : ℕ) where
 
 -- the header's length
 module _ (ids : List ℕ) (number : ℤ) (status c fields : ℕ) where
-  pub header-length : length (headerWith ids number status c fields) ≡ 22 + widthOf c + length ids
+  header-length : length (headerWith ids number status c fields) ≡ 22 + widthOf c + length ids
   unfolding headerWith
   header-length =
       let message = numberText 3 8 (bitsOf 64 number) in

@@ -26,14 +26,14 @@ module _ (out : List ℕ) (at : ℕ) where
       ∙ omega (arith, length-take-le at out (omega arith), length-drop (at + length a) out)
 
   -- the part before and with the text, and the part after it
-  pub placed-front : (a : List ℕ) → at + length a ≤ length out → take (at + length a) (placed out at a) ≡ take at out ++ a
+  placed-front : (a : List ℕ) → at + length a ≤ length out → take (at + length a) (placed out at a) ≡ take at out ++ a
   unfolding placed
   placed-front a h =
       ap (take (at + length a)) (sym (append-assoc (take at out) a (drop (at + length a) out)))
       ∙ take-at (take at out ++ a) (drop (at + length a) out) (at + length a)
       (length-append (take at out) a ∙ omega (arith, length-take-le at out (omega arith)))
 
-  pub placed-back : (a : List ℕ) → at + length a ≤ length out → drop (at + length a) (placed out at a) ≡ drop (at + length a) out
+  placed-back : (a : List ℕ) → at + length a ≤ length out → drop (at + length a) (placed out at a) ≡ drop (at + length a) out
   unfolding placed
   placed-back a h =
       ap (drop (at + length a)) (sym (append-assoc (take at out) a (drop (at + length a) out)))
@@ -65,7 +65,7 @@ module _ (out : List ℕ) (at : ℕ) where
       set-split out at x h ∙ ap (λ (k : ℕ). take at out ++ (x ∷ drop k out)) e
 
   -- a text whose last byte is stored first
-  pub placed-last : (a : List ℕ) (x : ℕ) → at + length a < length out → placed (set out (at + length a) x) at a ≡ placed out at (a ++ (x ∷ []))
+  placed-last : (a : List ℕ) (x : ℕ) → at + length a < length out → placed (set out (at + length a) x) at a ≡ placed out at (a ++ (x ∷ []))
   unfolding placed
   placed-last a x h =
       let p = at + length a in
@@ -89,7 +89,7 @@ big-length zero x = refl
 big-length (suc n) x = length-append (bigBytes n (x / 256)) (x % 256 ∷ []) ∙ omega (arith, big-length n (x / 256))
 
 -- a number whose last byte is stored first
-pub placed-digit : (out : List ℕ) (at n x : ℕ) → at + n < length out
+placed-digit : (out : List ℕ) (at n x : ℕ) → at + n < length out
     → placed (set out (at + n) (x % 256)) at (bigBytes n (x / 256)) ≡ placed out at (bigBytes (suc n) x)
 unfolding bigBytes
 placed-digit out at n x h =
