@@ -1,15 +1,14 @@
 // Runs the cases of cases.txt and prints each that goes wrong, then how many there are and how many of them are wrong.
-mod copies;
-mod tokens;
-mod values;
-mod words;
-
 use libc::STDERR_FILENO;
 use libc::STDOUT_FILENO;
-use words::find;
-use words::last;
-use words::part;
-use words::starts;
+use lines::find;
+use lines::last;
+use lines::part;
+use lines::starts;
+use lines::tokens;
+use texts::copies;
+use texts::rewrites;
+use texts::values;
 
 // How many numbers a table has at most, and has where a case does not say.
 const ROOM: usize = 1280;
@@ -36,8 +35,9 @@ struct Run {
     // Whether it asks for a field, and for which.
     asks: bool,
     field: usize,
-    // Whether its message is blanked, and how many bytes the output has.
+    // Whether its message is blanked, whether it writes, and how many bytes the output has.
     blanks: bool,
+    writes: bool,
     output: usize,
 }
 
@@ -59,7 +59,8 @@ fn start() -> Run {
         asks: false,
         field: 0,
         blanks: false,
-        output: 0,
+        writes: false,
+        output: copies::ROOM,
     }
 }
 
@@ -122,6 +123,19 @@ fn deed(text: &[u8], line: &[u8], run: Run, message: &mut [u8], expected: &mut [
     if check::same(line, b"end") {
         return end(text, run, message, expected);
     }
+    writing(line, run)
+}
+
+// The run after a line of a case that writes, which is run when the case ends: a call of the writer, or what is said of its state or output.
+fn writing(line: &[u8], run: Run) -> Run {
+    if starts(line, b"room ") {
+        return room(line, run);
+    }
+    if calls::writes(line) {
+        let mut after = run;
+        after.writes = true;
+        return after;
+    }
     lost(run)
 }
 
@@ -148,6 +162,8 @@ fn case(run: Run) -> Run {
     after.room = ROOM;
     after.asks = false;
     after.blanks = false;
+    after.writes = false;
+    after.output = copies::ROOM;
     after
 }
 
@@ -227,6 +243,17 @@ fn blanks(line: &[u8], run: Run) -> Run {
     after
 }
 
+// `room N`: the output that a message is written in has N bytes.
+fn room(line: &[u8], run: Run) -> Run {
+    let n = last(line, 5);
+    if copies::ROOM < n {
+        return lost(run);
+    }
+    let mut after = run;
+    after.output = n;
+    after
+}
+
 // `gives TEXT`: one more line of the text that is expected.
 fn gives(line: &[u8], run: Run, expected: &mut [u8]) -> Run {
     let mut at = listing::put(part(line, 6, line.len()), expected, run.expects);
@@ -239,10 +266,13 @@ fn gives(line: &[u8], run: Run, expected: &mut [u8]) -> Run {
     after
 }
 
-// `end`: the case is run, and its listing, or what asking or blanking answers, compared.
+// `end`: the case is run, and its listing, or what asking, blanking or writing answers, compared. An accepted message that writing does not give back
+// has a line more, which no case expects.
 fn end(text: &[u8], run: Run, message: &[u8], expected: &[u8]) -> Run {
     let mut told = [0u8; 16384];
-    let n = answer(run, part(message, 0, run.length), &mut told);
+    let own = part(message, 0, run.length);
+    let answered = answer(run, part(text, run.name_to, run.from), own, &mut told);
+    let n = rewrites::answer(own, &mut told, answered);
     let given = part(&told, 0, n);
     let mut after = run;
     after.begun = false;
@@ -261,14 +291,17 @@ fn end(text: &[u8], run: Run, message: &[u8], expected: &[u8]) -> Run {
     after
 }
 
-// The length of the case's answer, put at the front of `out`: of what asking or blanking answers, or of the listing of `message`, its first line alone
-// where the case lends no table.
-fn answer(run: Run, message: &[u8], out: &mut [u8]) -> usize {
+// The length of the answer of the case that has these lines, put at the front of `out`: of what asking, blanking or writing answers, or of the listing
+// of `message`, its first line alone where the case lends no table.
+fn answer(run: Run, text: &[u8], message: &[u8], out: &mut [u8]) -> usize {
     if run.asks {
         return values::answer(message, run.field, out);
     }
     if run.blanks {
         return copies::answer(message, run.output, out);
+    }
+    if run.writes {
+        return calls::answer(text, message, run.output, out);
     }
     if !run.lends {
         let judged = reading::judge(message);

@@ -1,0 +1,126 @@
+// What a line of a case file says: its words and numbers, the bytes that it gives, the scalar that it tells.
+ghost use Prim.Native.Nat.{_≤_, max};
+ghost use lib.ListN.{length};
+
+pub mod scalars;
+pub mod signed;
+pub mod tokens;
+
+// Stands for no number, and for one that is too large.
+pub const NONE: usize = usize::MAX;
+
+// A number, and the place after it.
+pub struct Figure {
+    pub value: usize,
+    pub at: usize,
+}
+
+// The bytes of `text` from `from` up to `to`; none where `text` has no such part.
+pub fn part(text: &[u8], from: usize, to: usize) -> &[u8] {
+    if to <= text.len() {
+        if from <= to {
+            return &text[from..to];
+        }
+    }
+    &text[0..0]
+}
+
+// Whether `line` begins with `word`.
+pub fn starts(line: &[u8], word: &[u8]) -> bool {
+    check::same(part(line, 0, word.len()), word)
+}
+
+// The place of the first byte `b` of `line` from `from` on; its end where there is none.
+pub fn find(line: &[u8], from: usize, b: u8) -> usize
+    ensures { λ r. ⌜ (from ≤ r) × (r ≤ max from (length (now (line .entry)))) ⌝ }
+{
+    let mut at = from;
+    while at < line.len() {
+        if line[at] == b {
+            return at;
+        }
+        at += 1;
+    }
+    at
+}
+
+// The number that stands in `line` at `from`, in decimal or, after 0x, in hexadecimal.
+pub fn number(line: &[u8], from: usize) -> Figure {
+    if line.len() <= from {
+        return Figure {
+            value: NONE,
+            at: from,
+        };
+    }
+    if starts(part(line, from, line.len()), b"0x") {
+        return digits(line, from + 2, true);
+    }
+    digits(line, from, false)
+}
+
+// The number that stands in `line` from `from` to its end.
+pub fn last(line: &[u8], from: usize) -> usize {
+    let n = number(line, from);
+    if n.at == line.len() { n.value } else { NONE }
+}
+
+// The number that stands in `line` after a space at `at`.
+pub fn spaced(line: &[u8], at: usize) -> Figure {
+    if line.len() <= at {
+        return Figure { value: NONE, at };
+    }
+    if line[at] != b' ' {
+        return Figure { value: NONE, at };
+    }
+    number(line, at + 1)
+}
+
+// The number whose digits stand in `line` at `from`.
+fn digits(line: &[u8], from: usize, hexadecimal: bool) -> Figure {
+    let mut value = 0;
+    let mut at = from;
+    while at < line.len() {
+        let d = digit(line[at], hexadecimal);
+        if 16 <= d {
+            break;
+        }
+        value = longer(value, d, hexadecimal);
+        at += 1;
+    }
+    if at == from {
+        return Figure { value: NONE, at };
+    }
+    Figure { value, at }
+}
+
+// The number `value` with the digit d behind it.
+fn longer(value: usize, d: usize, hexadecimal: bool) -> usize {
+    if 16 <= d {
+        return NONE;
+    }
+    if hexadecimal {
+        if (NONE - d) / 16 < value {
+            return NONE;
+        }
+        return value * 16 + d;
+    }
+    if (NONE - d) / 10 < value {
+        return NONE;
+    }
+    value * 10 + d
+}
+
+// The digit that `b` writes; 16 where it writes none.
+fn digit(b: u8, hexadecimal: bool) -> usize {
+    match b {
+        b'0'..=b'9' => (b - b'0') as usize,
+        b'A'..=b'F' => letter(b - b'A', hexadecimal),
+        b'a'..=b'f' => letter(b - b'a', hexadecimal),
+        _ => 16,
+    }
+}
+
+// The digit that the letter number i writes, from 0 for A; 16 where letters write none.
+fn letter(i: u8, hexadecimal: bool) -> usize {
+    if hexadecimal { i as usize + 10 } else { 16 }
+}
