@@ -38,7 +38,7 @@ pub enum Value {
 }
 
 // The signed number of 8 bits that x writes in two's complement.
-fn i8_of(x: u8) -> i8
+pub fn i8_of(x: u8) -> i8
     ensures { λ r. ⌜ r ≡ twos 8 x ⌝ }
 {
     if x < 128 {
@@ -51,7 +51,7 @@ fn i8_of(x: u8) -> i8
 }
 
 // The signed number of 16 bits that x writes in two's complement.
-fn i16_of(x: u16) -> i16
+pub fn i16_of(x: u16) -> i16
     ensures { λ r. ⌜ r ≡ twos 16 x ⌝ }
 {
     if x < 32768 {
@@ -64,7 +64,7 @@ fn i16_of(x: u16) -> i16
 }
 
 // The signed number of 32 bits that x writes in two's complement.
-fn i32_of(x: u32) -> i32
+pub fn i32_of(x: u32) -> i32
     ensures { λ r. ⌜ r ≡ twos 32 x ⌝ }
 {
     if x < 2147483648 {
@@ -77,7 +77,7 @@ fn i32_of(x: u32) -> i32
 }
 
 // The signed number of 64 bits that x writes in two's complement.
-fn i64_of(x: u64) -> i64
+pub fn i64_of(x: u64) -> i64
     ensures { λ r. ⌜ r ≡ twos 64 x ⌝ }
 {
     if x < 9223372036854775808 {
@@ -90,7 +90,7 @@ fn i64_of(x: u64) -> i64
 }
 
 // The float of these bits, of a field of code 4; or that they are not a number.
-fn float_of(x: u32) -> Scalar
+pub fn float_of(x: u32) -> Scalar
     ensures { λ r. ⌜ r ≡ floatOf x ⌝ }
 {
     if 2139095040 < x % 2147483648 {
@@ -101,7 +101,7 @@ fn float_of(x: u32) -> Scalar
 }
 
 // The double of these bits, of a field of code 5; or that they are not a number.
-fn double_of(x: u64) -> Scalar
+pub fn double_of(x: u64) -> Scalar
     ensures { λ r. ⌜ r ≡ doubleOf x ⌝ }
 {
     if 9218868437227405312 < x % 9223372036854775808 {
@@ -112,7 +112,7 @@ fn double_of(x: u64) -> Scalar
 }
 
 // The float of these bits with its mark, of a field of code 25; or that they are not a number.
-fn float_with(bits: u32, mark: Mark) -> Scalar
+pub fn float_with(bits: u32, mark: Mark) -> Scalar
     ensures { λ r. ⌜ r ≡ withFloat bits mark ⌝ }
 {
     if 2139095040 < bits % 2147483648 {
@@ -123,7 +123,7 @@ fn float_with(bits: u32, mark: Mark) -> Scalar
 }
 
 // The double of these bits with its mark, of a field of code 26; or that they are not a number.
-fn double_with(bits: u64, mark: Mark) -> Scalar
+pub fn double_with(bits: u64, mark: Mark) -> Scalar
     ensures { λ r. ⌜ r ≡ withDouble bits mark ⌝ }
 {
     if 9218868437227405312 < bits % 9223372036854775808 {

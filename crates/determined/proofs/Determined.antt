@@ -36,11 +36,28 @@ use Rattle.reading.proofs.judge.Reads as judge
 use Rattle.asking.proofs.ask.Reads as ask
 use Rattle.asking.proofs.view.Reads as view
 use Rattle.asking.proofs.value.Reads as value
+use Rattle.asking.proofs.scalars.i8_of.Reads as i8-of
+use Rattle.asking.proofs.scalars.i16_of.Reads as i16-of
+use Rattle.asking.proofs.scalars.i32_of.Reads as i32-of
+use Rattle.asking.proofs.scalars.i64_of.Reads as i64-of
+use Rattle.asking.proofs.scalars.float_of.Reads as float-of
+use Rattle.asking.proofs.scalars.double_of.Reads as double-of
+use Rattle.asking.proofs.scalars.float_with.Reads as float-with
+use Rattle.asking.proofs.scalars.double_with.Reads as double-with
 use Rattle.blanking.proofs.blank.Reads as blank
 use Rattle.writing.proofs.Writer.open.Reads as opening
 use Rattle.writing.proofs.Writer.add.Reads as add
 use Rattle.writing.proofs.Writer.add_scalar.Reads as add-scalar
 use Rattle.writing.proofs.Writer.close.Reads as close
+use Rattle.exports.proofs.sim0mq_read.Reads as c-read
+use Rattle.exports.proofs.sim0mq_judge.Reads as c-judge
+use Rattle.exports.proofs.sim0mq_value.Reads as c-value
+use Rattle.exports.proofs.sim0mq_view.Reads as c-view
+use Rattle.exports.proofs.sim0mq_blank.Reads as c-blank
+use Rattle.exports.proofs.sim0mq_open.Reads as c-open
+use Rattle.exports.proofs.sim0mq_add.Reads as c-add
+use Rattle.exports.proofs.sim0mq_add_scalar.Reads as c-add-scalar
+use Rattle.exports.proofs.sim0mq_close.Reads as c-close
 use Rattle.listing.proofs.put.Reads as put
 use Rattle.listing.proofs.number.Reads as decimal
 use Rattle.listing.proofs.listing.Reads as listing
@@ -167,6 +184,30 @@ view-result = equated view.Post (λ κs z e. now z) _ (λ κs a z e p. p)
 pub value-result : Determines value.Post (λ κs z e. z)
 value-result = determined value.Post (λ κs z e. z) (λ κs. valued) (λ κs. valued-apart) _ (λ κs a z e p. p)
 
+pub i8-of-result : Determines i8-of.Post (λ κs z e. z)
+i8-of-result = equated i8-of.Post (λ κs z e. z) _ (λ κs a z e p. p)
+
+pub i16-of-result : Determines i16-of.Post (λ κs z e. z)
+i16-of-result = equated i16-of.Post (λ κs z e. z) _ (λ κs a z e p. p)
+
+pub i32-of-result : Determines i32-of.Post (λ κs z e. z)
+i32-of-result = equated i32-of.Post (λ κs z e. z) _ (λ κs a z e p. p)
+
+pub i64-of-result : Determines i64-of.Post (λ κs z e. z)
+i64-of-result = equated i64-of.Post (λ κs z e. z) _ (λ κs a z e p. p)
+
+pub float-of-result : Determines float-of.Post (λ κs z e. z)
+float-of-result = equated float-of.Post (λ κs z e. z) _ (λ κs a z e p. p)
+
+pub double-of-result : Determines double-of.Post (λ κs z e. z)
+double-of-result = equated double-of.Post (λ κs z e. z) _ (λ κs a z e p. p)
+
+pub float-with-result : Determines float-with.Post (λ κs z e. z)
+float-with-result = equated float-with.Post (λ κs z e. z) _ (λ κs a z e p. p)
+
+pub double-with-result : Determines double-with.Post (λ κs z e. z)
+double-with-result = equated double-with.Post (λ κs z e. z) _ (λ κs a z e p. p)
+
 -- The calls of crate blanking.
 pub blank-result : Determines blank.Post (λ κs z e. z)
 blank-result = determined blank.Post (λ κs z e. z) (λ κs. judged) (λ κs. judged-apart) _ (λ κs a z e p. p .0)
@@ -195,6 +236,76 @@ add-scalar-out = equated add-scalar.Post (λ κs z e. now (e .1 .1 .0)) _ (λ κ
 
 pub close-result : Determines close.Post (λ κs z e. z)
 close-result = equated close.Post (λ κs z e. z) _ (λ κs a z e p. p)
+
+-- The calls of crate exports.
+pub c-read-result : Determines c-read.Post (λ κs z e. z)
+c-read-result = equated c-read.Post (λ κs z e. z) _ (λ κs a z e p. p .0)
+
+pub c-read-table : Determines c-read.Post (λ κs z e. now (e .1 .0))
+c-read-table = equated c-read.Post (λ κs z e. now (e .1 .0)) _ (λ κs a z e p. p .1 .0)
+
+pub c-read-answer : Determines c-read.Post (λ κs z e. now (e .1 .1 .0))
+c-read-answer = equated c-read.Post (λ κs z e. now (e .1 .1 .0)) _ (λ κs a z e p. p .1 .1)
+
+pub c-judge-result : Determines c-judge.Post (λ κs z e. z)
+c-judge-result = equated c-judge.Post (λ κs z e. z) _ (λ κs a z e p. p .0)
+
+pub c-judge-answer : Determines c-judge.Post (λ κs z e. now (e .1 .0))
+c-judge-answer = equated c-judge.Post (λ κs z e. now (e .1 .0)) _ (λ κs a z e p. p .1)
+
+pub c-value-result : Determines c-value.Post (λ κs z e. z)
+c-value-result = equated c-value.Post (λ κs z e. z) _ (λ κs a z e p. p .0)
+
+pub c-value-answer : Determines c-value.Post (λ κs z e. now (e .1 .1 .0))
+c-value-answer = equated c-value.Post (λ κs z e. now (e .1 .1 .0)) _ (λ κs a z e p. p .1)
+
+pub c-view-result : Determines c-view.Post (λ κs z e. z)
+c-view-result = equated c-view.Post (λ κs z e. z) _ (λ κs a z e p. p .0)
+
+pub c-view-answer : Determines c-view.Post (λ κs z e. now (e .1 .1 .0))
+c-view-answer = equated c-view.Post (λ κs z e. now (e .1 .1 .0)) _ (λ κs a z e p. p .1)
+
+pub c-blank-result : Determines c-blank.Post (λ κs z e. z)
+c-blank-result = equated c-blank.Post (λ κs z e. z) _ (λ κs a z e p. p .0)
+
+pub c-blank-out : Determines c-blank.Post (λ κs z e. now (e .1 .0))
+c-blank-out = equated c-blank.Post (λ κs z e. now (e .1 .0)) _ (λ κs a z e p. p .1 .0)
+
+pub c-blank-answer : Determines c-blank.Post (λ κs z e. now (e .1 .1 .0))
+c-blank-answer = equated c-blank.Post (λ κs z e. now (e .1 .1 .0)) _ (λ κs a z e p. p .1 .1)
+
+pub c-open-result : Determines c-open.Post (λ κs z e. z)
+c-open-result = equated c-open.Post (λ κs z e. z) _ (λ κs a z e p. p .0)
+
+pub c-open-out : Determines c-open.Post (λ κs z e. now (e .1 .1 .1 .1 .1 .1 .0))
+c-open-out = equated c-open.Post (λ κs z e. now (e .1 .1 .1 .1 .1 .1 .0)) _ (λ κs a z e p. p .1 .0)
+
+pub c-open-answer : Determines c-open.Post (λ κs z e. now (e .1 .1 .1 .1 .1 .1 .1 .0))
+c-open-answer = equated c-open.Post (λ κs z e. now (e .1 .1 .1 .1 .1 .1 .1 .0)) _ (λ κs a z e p. p .1 .1)
+
+pub c-add-result : Determines c-add.Post (λ κs z e. z)
+c-add-result = equated c-add.Post (λ κs z e. z) _ (λ κs a z e p. p .0)
+
+pub c-add-out : Determines c-add.Post (λ κs z e. now (e .1 .1 .1 .1 .1 .0))
+c-add-out = equated c-add.Post (λ κs z e. now (e .1 .1 .1 .1 .1 .0)) _ (λ κs a z e p. p .1 .0)
+
+pub c-add-answer : Determines c-add.Post (λ κs z e. now (e .1 .1 .1 .1 .1 .1 .0))
+c-add-answer = equated c-add.Post (λ κs z e. now (e .1 .1 .1 .1 .1 .1 .0)) _ (λ κs a z e p. p .1 .1)
+
+pub c-add-scalar-result : Determines c-add-scalar.Post (λ κs z e. z)
+c-add-scalar-result = equated c-add-scalar.Post (λ κs z e. z) _ (λ κs a z e p. p .0)
+
+pub c-add-scalar-out : Determines c-add-scalar.Post (λ κs z e. now (e .1 .1 .1 .1 .1 .1 .1 .1 .1 .0))
+c-add-scalar-out = equated c-add-scalar.Post (λ κs z e. now (e .1 .1 .1 .1 .1 .1 .1 .1 .1 .0)) _ (λ κs a z e p. p .1 .0)
+
+pub c-add-scalar-answer : Determines c-add-scalar.Post (λ κs z e. now (e .1 .1 .1 .1 .1 .1 .1 .1 .1 .1 .0))
+c-add-scalar-answer = equated c-add-scalar.Post (λ κs z e. now (e .1 .1 .1 .1 .1 .1 .1 .1 .1 .1 .0)) _ (λ κs a z e p. p .1 .1)
+
+pub c-close-result : Determines c-close.Post (λ κs z e. z)
+c-close-result = equated c-close.Post (λ κs z e. z) _ (λ κs a z e p. p .0)
+
+pub c-close-answer : Determines c-close.Post (λ κs z e. now (e .1 .1 .1 .1 .0))
+c-close-answer = equated c-close.Post (λ κs z e. now (e .1 .1 .1 .1 .0)) _ (λ κs a z e p. p .1)
 
 -- The calls of crate listing.
 pub put-result : Determines put.Post (λ κs z e. z)

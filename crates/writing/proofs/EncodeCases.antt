@@ -29,7 +29,7 @@ use Rattle.writing.specs.Puts.{bitsUpTo, HeldUpTo, encodedAs, markedGive
 use Rattle.writing.proofs.PlaceLaws.{placed-length, placed-on, placed-byte, placed-coded, big-length}
 
 -- the bits of a signed number are those in a width whose largest number is 2 ^ w - 1
-bits-of : (w : ℕ) (z : ℤ) → bitsUpTo (2 ^ w - 1) z ≡ bitsOf w z
+pub bits-of : (w : ℕ) (z : ℤ) → bitsUpTo (2 ^ w - 1) z ≡ bitsOf w z
 unfolding bitsUpTo bitsOf
 bits-of w (pos n) = refl
 bits-of w (negsuc n) = omega arith

@@ -1,0 +1,174 @@
+/*
+ * Sim0MQ typed messages (big-endian, manual version 1.5): reading, asking, blanking and writing.
+ *
+ * Every call is proved to end, to be safe, and to answer exactly as stated here, whatever bytes and numbers it is handed. None has a precondition but
+ * C's own: a pointer stands with the number of elements behind it, and the buffers of one call do not overlap. An empty buffer has length 0, and its
+ * pointer is still not null. Nothing is kept between calls, so calls may run side by side.
+ *
+ * Answers are numbers in `answer`, which the caller lends. A call returns
+ *
+ *     0          granted
+ *     1 to 17    refused; the number is one of the table below
+ *     255        `answer` is too short for the call's numbers (SIM0MQ_..._NUMBERS); nothing at all is written
+ *
+ * answer[0] is the returned number, and answer[1] the place of the fault, 0 where the call is granted. On a refusal the call's other numbers are 0
+ * (but the writer's state, see there), and every other buffer is as it was. Numbers of `answer` past the call's own stay as they were.
+ *
+ *     No.  When                                                        Place
+ *     1    the bytes end before the item being read                    their length
+ *     2    frame 0: a wrong byte, or no digit                          that byte
+ *     3    frame 0: digits other than 01                               8
+ *     4    type code not allowed in this frame                         that byte; 0 for the writer's count type
+ *     5    a count is negative                                         its first byte
+ *     6    status not 1 to 3                                           that byte; 0 in the writer
+ *     7    more than 256 fields, or more than the count's type holds   first byte of the count; 0 in the writer
+ *     8    more than 32,768 bytes in the message                       0
+ *     9    field code above 32                                         that byte
+ *     10   Boolean byte above 1                                        that byte
+ *     11   unit type unknown                                           that byte
+ *     12   currency or display code outside its range                  its first byte
+ *     13   bytes after the last item                                   the first of them
+ *     14   lent output too short                                       0
+ *     15   writer call that does not fit its state                     0
+ *     16   no field k                                                  0
+ *     17   value not of the kind asked or allowed                      0
+ */
+#ifndef SIM0MQ_H
+#define SIM0MQ_H
+
+#include <stddef.h>
+#include <stdint.h>
+
+#ifdef __cplusplus
+extern "C" {
+#endif
+
+/* The returned number where `answer` is too short. */
+#define SIM0MQ_ANSWER_TOO_SHORT 255u
+
+/* How many numbers each call stores in `answer`. */
+#define SIM0MQ_READ_NUMBERS 21
+#define SIM0MQ_VALUE_NUMBERS 7
+#define SIM0MQ_VIEW_NUMBERS 4
+#define SIM0MQ_BLANK_NUMBERS 3
+#define SIM0MQ_WRITER_NUMBERS 7
+
+/* The most bytes of a message, the most fields, and the table's numbers for each field. */
+#define SIM0MQ_MOST_BYTES 32768
+#define SIM0MQ_MOST_FIELDS 256
+#define SIM0MQ_ROW_NUMBERS 5
+
+/* The kinds of a scalar value. */
+#define SIM0MQ_BYTE 0
+#define SIM0MQ_SHORT 1
+#define SIM0MQ_INT 2
+#define SIM0MQ_LONG 3
+#define SIM0MQ_FLOAT 4
+#define SIM0MQ_DOUBLE 5
+#define SIM0MQ_BOOLEAN 6
+#define SIM0MQ_CHAR8 7
+#define SIM0MQ_CHAR16 8
+#define SIM0MQ_FLOAT_UNIT 9
+#define SIM0MQ_DOUBLE_UNIT 10
+#define SIM0MQ_NOT_NUMBER 11
+
+/*
+ * Reads a message.
+ *
+ *     answer[2]              its length
+ *     answer[3]              its number of fields
+ *     answer[4]              the steps: one for each frame, each field and each mark
+ *     answer[5 + 2 * i]      the place of header frame i, 0 to 7
+ *     answer[6 + 2 * i]      the type code of header frame i
+ *
+ * The table gets five numbers for each field: code, place of the code byte, place of the first value byte, number of value bytes, number of marks; its
+ * later numbers stay.
+ * Refusals: 1 to 13, and 14 where the table has fewer than five numbers for each declared field. Refused, the table is as it was.
+ */
+uint32_t sim0mq_read(const uint8_t *message, size_t message_len, uint32_t *table, size_t table_len, uint64_t *answer, size_t answer_len);
+
+/*
+ * Judges a message as reading does, with no table: the same numbers, and no refusal 14.
+ */
+uint32_t sim0mq_judge(const uint8_t *message, size_t message_len, uint64_t *answer, size_t answer_len);
+
+/*
+ * The value of field k, counted from 0, where it is a scalar (codes 0 to 8, 25 and 26).
+ *
+ *     answer[2]    the kind, SIM0MQ_BYTE to SIM0MQ_NOT_NUMBER
+ *     answer[3]    the bits: two's complement of the value's own width (8, 16, 32 or 64), IEEE 754's bits, 1 for true, the character; where the bits
+ *                  are a NaN (SIM0MQ_NOT_NUMBER), the field's code
+ *     answer[4]    the mark's unit type; 0 where the value has no mark
+ *     answer[5]    the mark's currency code; 0 where it has none
+ *     answer[6]    the mark's display code; 0 where it has none
+ *
+ * Refusals: 1 to 13, then 16, then 17 where the field is no scalar.
+ */
+uint32_t sim0mq_value(const uint8_t *message, size_t message_len, uint64_t k, uint64_t *answer, size_t answer_len);
+
+/*
+ * Where the value bytes of field k stand in the message, for a field of any code.
+ *
+ *     answer[2]    the place of the first value byte
+ *     answer[3]    the number of value bytes
+ *
+ * Refusals: 1 to 13, then 16.
+ */
+uint32_t sim0mq_view(const uint8_t *message, size_t message_len, uint64_t k, uint64_t *answer, size_t answer_len);
+
+/*
+ * Copies the message to `out` with zero in every payload value byte. `out` past the copy stays.
+ *
+ *     answer[2]    the length of the copy, which is the message's
+ *
+ * Refusals: 1 to 13, then 14 where `out` is shorter than the message. Refused, `out` is as it was.
+ */
+uint32_t sim0mq_blank(const uint8_t *message, size_t message_len, uint8_t *out, size_t out_len, uint64_t *answer, size_t answer_len);
+
+/*
+ * The writer. Its state is four numbers, which each call takes and hands back:
+ *
+ *     answer[2]    the number of bytes written so far; after closing, the length of the message; 0 on a refusal
+ *     answer[3]    the state: written
+ *     answer[4]               declared
+ *     answer[5]               added
+ *     answer[6]               closed, 0 or 1
+ *
+ * A refused adding or closing hands back the state that it took, and a refused opening a closed one with every number 0; `out` is then as it was. The
+ * finished message is the first answer[2] bytes of `out`, where each call takes the state last handed back and one same buffer that nothing else
+ * writes. `out` past the message stays. In `closed` 0 is open and any other number closed.
+ *
+ * Opening writes the header. `ids` is four encoded frames in one piece: run, sender, receiver, message type. Where `stated` is 0 the type code of the
+ * declared count is 1, and else `kind`.
+ * Refusals: 1, 4, 5 and 13 in the ids (places within them), 6 status, 4 count type, 7 count, 8, 14.
+ */
+uint32_t sim0mq_open(const uint8_t *ids, size_t ids_len, int64_t number, uint8_t status, uint64_t fields, uint8_t stated, uint8_t kind,
+                     uint8_t *out, size_t out_len, uint64_t *answer, size_t answer_len);
+
+/*
+ * Adds one encoded field.
+ * Refusals: 15 where the declared number is reached, the state is closed, or its written length is above 32,768 or above out_len; those of a payload
+ * of one field (places within it); 8; 14.
+ */
+uint32_t sim0mq_add(uint64_t written, uint64_t declared, uint64_t added, uint8_t closed, const uint8_t *field, size_t field_len,
+                    uint8_t *out, size_t out_len, uint64_t *answer, size_t answer_len);
+
+/*
+ * Adds a scalar: kind, bits and mark as sim0mq_value answers them. A value with no mark takes no heed of unit, currency and display.
+ * Refusals: 15 as in adding; 17 where the kind is 11 or above, the bits are more than the kind's width, they are a NaN's, or the mark is one that
+ * reading would refuse or never gives; 8; 14.
+ */
+uint32_t sim0mq_add_scalar(uint64_t written, uint64_t declared, uint64_t added, uint8_t closed, uint8_t kind, uint64_t bits, uint8_t unit,
+                           uint16_t currency, uint8_t display, uint8_t *out, size_t out_len, uint64_t *answer, size_t answer_len);
+
+/*
+ * Closes the message.
+ * Refusals: 15 where the state is closed, its written length is above 32,768, or not exactly the declared number of fields was added.
+ */
+uint32_t sim0mq_close(uint64_t written, uint64_t declared, uint64_t added, uint8_t closed, uint64_t *answer, size_t answer_len);
+
+#ifdef __cplusplus
+}
+#endif
+
+#endif

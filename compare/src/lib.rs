@@ -1,0 +1,18 @@
+//! Compares two implementations of the Sim0MQ message rules on generated input.
+//!
+//! [`peer`] is an implementation written from the rules alone, [`generate`]
+//! makes the inputs and [`driver`] puts the same questions to two
+//! [`subject::Subject`]s and compares every answer and every lent buffer.
+
+#![deny(unsafe_code)]
+#![warn(missing_docs)]
+
+pub mod driver;
+pub mod generate;
+pub mod peer;
+pub mod plain;
+#[cfg(feature = "product")]
+pub mod product;
+pub mod random;
+pub mod subject;
+pub mod tally;

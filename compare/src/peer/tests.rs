@@ -1,0 +1,60 @@
+//! The examples of the rules and of the manual, and the errors that look
+//! reasonable.
+
+mod asking;
+mod reading;
+mod writing;
+
+use super::{read, Reading, Refusal};
+
+/// The message of section 2.3.6 with the misprints put right.
+pub(crate) const S: [u8; 77] = *b"\x09\0\0\0\x05SIM01\
+    \x09\0\0\0\x09IDVV.14.2\
+    \x09\0\0\0\x04MC.1\
+    \x09\0\0\0\x05MM1.4\
+    \x09\0\0\0\x06DSOL.3\
+    \x03\0\0\0\0\0\0\0\x7C\0\x02\x01\0\x01\
+    \x05\x3F\xC9\x99\x99\x99\x99\x99\x9A";
+
+/// The place of the payload in [`S`].
+const PAYLOAD: usize = 68;
+
+/// `S` with one byte changed.
+fn changed(place: usize, byte: u8) -> Vec<u8> {
+    let mut message = S.to_vec();
+    message[place] = byte;
+    message
+}
+
+/// `S` with another payload, still of one field.
+fn with_payload(payload: &[u8]) -> Vec<u8> {
+    [&S[..PAYLOAD], payload].concat()
+}
+
+/// `S` with another count frame and payload.
+fn with_fields(count: u16, payload: &[u8]) -> Vec<u8> {
+    [&S[..66], &count.to_be_bytes(), payload].concat()
+}
+
+/// The answer without a table and, the same, with a table that has room.
+fn judged(message: &[u8]) -> Result<Reading, Refusal> {
+    let without = read(message, None);
+    assert_eq!(read(message, Some(&mut [7; 1280])), without);
+    without
+}
+
+/// Checks that a message is refused with this number at this place.
+#[track_caller]
+fn refused(message: &[u8], number: u32, place: u64) {
+    assert_eq!(judged(message), Err(Refusal { number, place }));
+}
+
+/// The table of an accepted message, with what follows it untouched.
+#[track_caller]
+fn table_of(message: &[u8]) -> Vec<[u32; 5]> {
+    let mut table = [0xDEAD_BEEF; 1290];
+    let reading = read(message, Some(&mut table)).expect("accepted");
+    let (used, rest) = table.split_at(5 * reading.fields as usize);
+    assert!(rest.iter().all(|&entry| entry == 0xDEAD_BEEF));
+    used.chunks_exact(5).map(|entry| entry.try_into().expect("five")).collect()
+}

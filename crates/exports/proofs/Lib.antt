@@ -1,0 +1,4 @@
+pub mod NumberLaws
+pub mod GivenLaws
+pub mod ScalarLaws
+pub mod WriterLaws

@@ -1,0 +1,55 @@
+-- The writer's calls in numbers: each case of an answer, and a state that is told by its numbers.
+use Prim.Native.Nat.{ℕ}
+use mathlib.Core.Path.{_≡_, sym, ap, _∙_}
+use mathlib.Core.List.{List, [], _∷_, _++_}
+use lib.IntN.{ℤ}
+use lib.ListN.{length}
+use mir.Val.{boolByte}
+use Rattle.sim0mq.specs.Views.{judged}
+use Rattle.sim0mq.specs.declared.Judged.{Judged}
+use Rattle.sim0mq.specs.declared.Judged.the-variants.{Accepted, Refused}
+use Rattle.sim0mq.specs.declared.Refusal.{Refusal}
+use Rattle.writing.specs.Writing.{Opening, asksFor, opening, afterOpening, Given, adding, afterAdding, closing, afterClosing, bufferAfter}
+use Rattle.writing.specs.declared.CountType.{CountType}
+use Rattle.writing.specs.declared.Writer.{Writer}
+use Rattle.writing.specs.declared.Wrote.{Wrote}
+use Rattle.exports.specs.Numbers.{lengthNumbers, stateNumbers}
+use Rattle.exports.proofs.ScalarLaws.{truth-number}
+
+-- The numbers of an answer, before those of the state.
+pub wrote-refused : (said : Judged) (w : Writer) (r : Refusal) → said ≡ Refused r
+    → r .number ∷ r .place ∷ 0 ∷ w .written ∷ w .declared ∷ w .added ∷ boolByte (w .closed) ∷ [] ≡ lengthNumbers (judged said) ++ stateNumbers w
+wrote-refused said w r e =
+    ap (λ (n : ℕ). r .number ∷ r .place ∷ 0 ∷ w .written ∷ w .declared ∷ w .added ∷ n ∷ []) (truth-number (w .closed))
+    ∙ sym (ap (λ (s : Judged). lengthNumbers (judged s) ++ stateNumbers w) e)
+
+pub wrote-accepted : (said : Judged) (w : Writer) (n : ℕ) → said ≡ Accepted n
+    → 0 ∷ 0 ∷ n ∷ w .written ∷ w .declared ∷ w .added ∷ boolByte (w .closed) ∷ [] ≡ lengthNumbers (judged said) ++ stateNumbers w
+wrote-accepted said w n e =
+    ap (λ (x : ℕ). 0 ∷ 0 ∷ n ∷ w .written ∷ w .declared ∷ w .added ∷ x ∷ []) (truth-number (w .closed))
+    ∙ sym (ap (λ (s : Judged). lengthNumbers (judged s) ++ stateNumbers w) e)
+
+-- The call of a state is that of the state which its numbers tell, and so with what is given to be added.
+module _ (w v : Writer) (e : w ≡ v) where
+  pub closed-as : (r : Wrote) → r ≡ afterClosing w (closing w) → r ≡ afterClosing v (closing v)
+  closed-as r h = h ∙ ap (λ (x : Writer). afterClosing x (closing x)) e
+
+  pub added-as : (g k : Given) → g ≡ k → (room : ℕ) (r : Wrote) → r ≡ afterAdding w (adding w room g) → r ≡ afterAdding v (adding v room k)
+  added-as g k f room r h = h ∙ rw (e, f)
+
+  pub buffer-as : (g k : Given) → g ≡ k → (out out₁ : List ℕ) → out₁ ≡ bufferAfter out (w .written) (adding w (length out) g)
+      → out₁ ≡ bufferAfter out (v .written) (adding v (length out) k)
+  buffer-as g k f out out₁ h = h ∙ rw (e, f)
+
+-- The opening that is asked for, whose number and type of count the code has in other words.
+module _ (ids : List ℕ) (y z : ℤ) (status fields : ℕ) (k l : CountType) (e : y ≡ z) (f : k ≡ l) where
+  same : asksFor ids y status fields k ≡ asksFor ids z status fields l
+  same = rw (e, f)
+
+  pub opened-as : (room : ℕ) (r : Wrote) → r ≡ afterOpening (asksFor ids y status fields k) (opening (asksFor ids y status fields k) room)
+      → r ≡ afterOpening (asksFor ids z status fields l) (opening (asksFor ids z status fields l) room)
+  opened-as room r h = h ∙ ap (λ (o : Opening). afterOpening o (opening o room)) same
+
+  pub header-as : (out out₁ : List ℕ) → out₁ ≡ bufferAfter out 0 (opening (asksFor ids y status fields k) (length out))
+      → out₁ ≡ bufferAfter out 0 (opening (asksFor ids z status fields l) (length out))
+  header-as out out₁ h = h ∙ ap (λ (o : Opening). bufferAfter out 0 (opening o (length out))) same

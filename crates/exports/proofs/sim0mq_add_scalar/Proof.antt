@@ -1,0 +1,65 @@
+-- Where there is room, the numbers are those of what `add_scalar` answers to the state and the scalar that their numbers tell, and `out` is as it leaves it.
+use borrow.Author.Needs.{needs}
+use mathlib.Core.Path.{ap, _∙_}
+use Rattle.writing.specs.Writing.{scalar}
+use Rattle.exports.specs.Numbers.{wroteNumbers}
+use Rattle.exports.proofs.GivenLaws.{given-short, given-room, returned-short, answered-short, returned-room, answered-room}
+use Rattle.exports.proofs.WriterLaws.{added-as, buffer-as}
+use Rattle.exports.proofs.sim0mq_add_scalar.Statement.{statement}
+use Rattle.exports.proofs.sim0mq_add_scalar.Tie as tie
+
+returns : tie.Need-returns
+returns c = (returned-short _ _ _ (c .if1 .taken), (given-short _ _ _ _ (c .if1 .taken), answered-short _ _ _ (c .if1 .taken)))
+
+scalar-from-requires : tie.Need-scalar-from-requires
+scalar-from-requires c κs = search needs
+
+writer-of-requires : tie.Need-writer-of-requires
+writer-of-requires c κs = search needs
+
+add-scalar-requires : tie.Need-add-scalar-requires
+add-scalar-requires c κs = search needs
+
+wrote-numbers-requires : tie.Need-wrote-numbers-requires
+wrote-numbers-requires c κs = search needs
+
+slice-aggregate-give : tie.Need-slice-aggregate-give
+slice-aggregate-give c = search needs
+
+give-requires : tie.Need-give-requires
+give-requires c κs = search needs
+
+same-length : tie.Need-same-length
+same-length c = search needs
+
+same-length-2 : tie.Need-same-length-2
+same-length-2 c = search needs
+
+returns-2 : tie.Need-returns-2
+returns-2 c =
+    let g = c .before .before in
+    let n = g .before .before .before in
+    let a = n .before .before .before .before in
+    let w = a .before .before in
+    let v = w .before in
+    let args = v .before .before .before .before .args in
+    let room = v .before .if1 .left in
+    let is = w .writer-of .ensures in
+    let same = ap scalar (v .scalar-from .ensures) in
+    let e = n .wrote-numbers .ensures .0 ∙ ap wroteNumbers (added-as _ _ is _ _ same _ _ (a .add-scalar .ensures .0)) in
+    (returned-room _ _ _ _ _ room e (g .give .ensures .0), (buffer-as _ _ is _ _ same (args .out .now) _ (a .add-scalar .ensures .1) ∙ given-room _ _ _ _ room, answered-room _ _ _ _ _ room e (g .give .ensures .1)))
+
+pub sim0mq-add-scalar-spec : {M : Type 1} → statement M
+sim0mq-add-scalar-spec =
+    tie.close
+    (tie.spec
+    returns
+    scalar-from-requires
+    writer-of-requires
+    add-scalar-requires
+    wrote-numbers-requires
+    slice-aggregate-give
+    give-requires
+    same-length
+    same-length-2
+    returns-2)

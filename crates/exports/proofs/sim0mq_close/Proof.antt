@@ -1,0 +1,51 @@
+-- Where there is room, the numbers are those of what `close` answers to the state that its numbers tell.
+use borrow.Author.Needs.{needs}
+use mathlib.Core.Path.{ap, _∙_}
+use Rattle.exports.specs.Numbers.{wroteNumbers}
+use Rattle.exports.proofs.GivenLaws.{returned-short, answered-short, returned-room, answered-room}
+use Rattle.exports.proofs.WriterLaws.{closed-as}
+use Rattle.exports.proofs.sim0mq_close.Statement.{statement}
+use Rattle.exports.proofs.sim0mq_close.Tie as tie
+
+returns : tie.Need-returns
+returns c = (returned-short _ _ _ (c .if1 .taken), answered-short _ _ _ (c .if1 .taken))
+
+writer-of-requires : tie.Need-writer-of-requires
+writer-of-requires c κs = search needs
+
+close-requires : tie.Need-close-requires
+close-requires c κs = search needs
+
+wrote-numbers-requires : tie.Need-wrote-numbers-requires
+wrote-numbers-requires c κs = search needs
+
+slice-aggregate-give : tie.Need-slice-aggregate-give
+slice-aggregate-give c = search needs
+
+give-requires : tie.Need-give-requires
+give-requires c κs = search needs
+
+same-length : tie.Need-same-length
+same-length c = search needs
+
+returns-2 : tie.Need-returns-2
+returns-2 c =
+    let g = c .before .before in
+    let n = g .before .before .before in
+    let w = n .before .before .before in
+    let room = w .before .if1 .left in
+    let e = n .wrote-numbers .ensures .0 ∙ ap wroteNumbers (closed-as _ _ (w .writer-of .ensures) _ (n .before .before .close .ensures)) in
+    (returned-room _ _ _ _ _ room e (g .give .ensures .0), answered-room _ _ _ _ _ room e (g .give .ensures .1))
+
+pub sim0mq-close-spec : {M : Type 1} → statement M
+sim0mq-close-spec =
+    tie.close
+    (tie.spec
+    returns
+    writer-of-requires
+    close-requires
+    wrote-numbers-requires
+    slice-aggregate-give
+    give-requires
+    same-length
+    returns-2)

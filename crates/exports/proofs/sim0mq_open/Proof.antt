@@ -1,0 +1,61 @@
+-- Where there is room, the numbers are those of what `open` answers, and `out` is as it leaves it.
+use borrow.Author.Needs.{needs}
+use mathlib.Core.Path.{ap, _∙_}
+use mir.Syntax.{w64}
+use mir.ValLaws.{toZ-ofZ}
+use Rattle.exports.specs.Numbers.{wroteNumbers}
+use Rattle.exports.proofs.GivenLaws.{given-short, given-room, returned-short, answered-short, returned-room, answered-room}
+use Rattle.exports.proofs.WriterLaws.{opened-as, header-as}
+use Rattle.exports.proofs.sim0mq_open.Statement.{statement}
+use Rattle.exports.proofs.sim0mq_open.Tie as tie
+
+returns : tie.Need-returns
+returns c = (returned-short _ _ _ (c .if1 .taken), (given-short _ _ _ _ (c .if1 .taken), answered-short _ _ _ (c .if1 .taken)))
+
+count-type-requires : tie.Need-count-type-requires
+count-type-requires c κs = search needs
+
+open-requires : tie.Need-open-requires
+open-requires c κs = search needs
+
+wrote-numbers-requires : tie.Need-wrote-numbers-requires
+wrote-numbers-requires c κs = search needs
+
+slice-aggregate-give : tie.Need-slice-aggregate-give
+slice-aggregate-give c = search needs
+
+give-requires : tie.Need-give-requires
+give-requires c κs = search needs
+
+same-length : tie.Need-same-length
+same-length c = search needs
+
+same-length-2 : tie.Need-same-length-2
+same-length-2 c = search needs
+
+returns-2 : tie.Need-returns-2
+returns-2 c =
+    let g = c .before .before in
+    let n = g .before .before .before in
+    let o = n .before .before .before .before in
+    let k = o .before .before in
+    let start = k .before .before .before .before .before in
+    let room = k .before .if1 .left in
+    let same = toZ-ofZ w64 (start .args .number) (start .fits .number) in
+    let is = k .count-type .ensures in
+    let e = n .wrote-numbers .ensures .0 ∙ ap wroteNumbers (opened-as _ _ _ _ _ _ _ same is _ _ (o .open .ensures .0)) in
+    (returned-room _ _ _ _ _ room e (g .give .ensures .0), (header-as _ _ _ _ _ _ _ same is (start .args .out .now) _ (o .open .ensures .1) ∙ given-room _ _ _ _ room, answered-room _ _ _ _ _ room e (g .give .ensures .1)))
+
+pub sim0mq-open-spec : {M : Type 1} → statement M
+sim0mq-open-spec =
+    tie.close
+    (tie.spec
+    returns
+    count-type-requires
+    open-requires
+    wrote-numbers-requires
+    slice-aggregate-give
+    give-requires
+    same-length
+    same-length-2
+    returns-2)

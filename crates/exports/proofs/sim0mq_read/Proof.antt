@@ -1,0 +1,50 @@
+-- Where there is room, the numbers are those of what `read` answers, and the table is as it leaves it.
+use borrow.Author.Needs.{needs}
+use mathlib.Core.Path.{ap, _∙_}
+use Rattle.exports.specs.Numbers.{readNumbers}
+use Rattle.exports.proofs.GivenLaws.{given-short, given-room, returned-short, answered-short, returned-room, answered-room}
+use Rattle.exports.proofs.sim0mq_read.Statement.{statement}
+use Rattle.exports.proofs.sim0mq_read.Tie as tie
+
+returns : tie.Need-returns
+returns c = (returned-short _ _ _ (c .if1 .taken), (given-short _ _ _ _ (c .if1 .taken), answered-short _ _ _ (c .if1 .taken)))
+
+read-requires : tie.Need-read-requires
+read-requires c κs = search needs
+
+read-numbers-requires : tie.Need-read-numbers-requires
+read-numbers-requires c κs = search needs
+
+slice-aggregate-give : tie.Need-slice-aggregate-give
+slice-aggregate-give c = search needs
+
+give-requires : tie.Need-give-requires
+give-requires c κs = search needs
+
+same-length : tie.Need-same-length
+same-length c = search needs
+
+same-length-2 : tie.Need-same-length-2
+same-length-2 c = search needs
+
+returns-2 : tie.Need-returns-2
+returns-2 c =
+    let g = c .before .before in
+    let n = g .before .before .before in
+    let r = n .before .before .before .before in
+    let room = r .before .before .if1 .left in
+    let e = n .read-numbers .ensures .0 ∙ ap readNumbers (r .read .ensures .0) in
+    (returned-room _ _ _ _ _ room e (g .give .ensures .0), (r .read .ensures .1 ∙ given-room _ _ _ _ room, answered-room _ _ _ _ _ room e (g .give .ensures .1)))
+
+pub sim0mq-read-spec : {M : Type 1} → statement M
+sim0mq-read-spec =
+    tie.close
+    (tie.spec
+    returns
+    read-requires
+    read-numbers-requires
+    slice-aggregate-give
+    give-requires
+    same-length
+    same-length-2
+    returns-2)

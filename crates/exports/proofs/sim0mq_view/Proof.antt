@@ -1,0 +1,45 @@
+-- Where there is room, the numbers are those of what `ask` answers.
+use borrow.Author.Needs.{needs}
+use mathlib.Core.Path.{ap, _∙_}
+use Rattle.exports.specs.Numbers.{viewNumbers}
+use Rattle.exports.proofs.GivenLaws.{returned-short, answered-short, returned-room, answered-room}
+use Rattle.exports.proofs.sim0mq_view.Statement.{statement}
+use Rattle.exports.proofs.sim0mq_view.Tie as tie
+
+returns : tie.Need-returns
+returns c = (returned-short _ _ _ (c .if1 .taken), answered-short _ _ _ (c .if1 .taken))
+
+ask-requires : tie.Need-ask-requires
+ask-requires c κs = search needs
+
+view-numbers-requires : tie.Need-view-numbers-requires
+view-numbers-requires c κs = search needs
+
+slice-aggregate-give : tie.Need-slice-aggregate-give
+slice-aggregate-give c = search needs
+
+give-requires : tie.Need-give-requires
+give-requires c κs = search needs
+
+same-length : tie.Need-same-length
+same-length c = search needs
+
+returns-2 : tie.Need-returns-2
+returns-2 c =
+    let g = c .before .before in
+    let n = g .before .before .before in
+    let room = n .before .before .if1 .left in
+    let e = n .view-numbers .ensures .0 ∙ ap viewNumbers (n .before .ask .ensures) in
+    (returned-room _ _ _ _ _ room e (g .give .ensures .0), answered-room _ _ _ _ _ room e (g .give .ensures .1))
+
+pub sim0mq-view-spec : {M : Type 1} → statement M
+sim0mq-view-spec =
+    tie.close
+    (tie.spec
+    returns
+    ask-requires
+    view-numbers-requires
+    slice-aggregate-give
+    give-requires
+    same-length
+    returns-2)
