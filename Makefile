@@ -1,6 +1,7 @@
 # make: prove the crates, build the programs and list a sample message. make test: the gate, from nothing, with the must-fail edits. make calls: every
-# public call with its contract.
-.PHONY: all test calls
+# public call with its contract. make example: the C example, built for this machine and run. make compare: a million cases of the library against the
+# independent reader in compare/.
+.PHONY: all test calls example compare
 
 all:
 	@rt check
@@ -11,3 +12,13 @@ test:
 
 calls:
 	@tools/public-calls
+
+target/native/libsim0mq.a:
+	@tools/native-library
+
+example: target/native/libsim0mq.a
+	@cc -std=c11 -Wall -Wextra -Wpedantic -O2 -I bindings/c bindings/c/example.c -L target/native -lsim0mq -o target/native/example
+	@target/native/example
+
+compare: target/native/libsim0mq.a
+	@cd compare && SIM0MQ_LIB_DIR=$(CURDIR)/target/native cargo run --release --offline --quiet --features product --bin compare -- 1 1000000

@@ -76,7 +76,11 @@ pub fn sound_message(random: &mut Random, made: &mut Message) {
     made.bytes.clear();
     if random.chance(3) {
         sized_message(random, 32_768, made);
-    } else {
+        return;
+    }
+    build(random, None, made);
+    while made.bytes.len() > 32_768 {
+        made.bytes.clear();
         build(random, None, made);
     }
 }
