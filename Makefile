@@ -5,7 +5,7 @@
 
 all:
 	@rt check
-	@target/bin/list < crates/list/stdin
+	@tools/run list < crates/list/stdin
 
 test:
 	@.ci/run
