@@ -1,5 +1,3 @@
 pub mod Scalars
 pub mod Writing
 pub mod Puts
-pub mod History
-pub mod Promises

@@ -25,10 +25,10 @@ use Rattle.asking.specs.Promises.{valueAlone}
 use Rattle.asking.specs.declared.scalars.Mark.{Mark}
 use Rattle.asking.specs.declared.scalars.Scalar.{Scalar}
 use Rattle.asking.specs.declared.scalars.Scalar.the-variants.{Byte, Short, Int, Long, Float, Double, Boolean, Char8, Char16, FloatUnit, DoubleUnit, NotNumber}
 use Rattle.writing.specs.Scalars.{codeOf, scalarText, markTaken, writable}
-use Rattle.writing.specs.Promises.{InWidth, Held}
+use Rattle.returning.specs.Promises.{InWidth, Held}
 use Rattle.writing.proofs.PlaceLaws.{big-length}
-use Rattle.writing.proofs.NumberLaws.{number-read, number-back, signed-back, bits-held, markedParts, marked-is, number-is}
+use Rattle.returning.proofs.NumberLaws.{number-read, number-back, signed-back, bits-held, markedParts, marked-is, number-is}
 
 -- the strings of a scalar's marks: one or none
 abbrev scalarMarks : Scalar → List (List ℕ)

@@ -14,13 +14,13 @@ use Rattle.sim0mq.specs.Answer.{Answer, fine, refused}
 use Rattle.sim0mq.specs.Message.{limit}
 use Rattle.sim0mq.specs.Allowed.{Each, none, more, FieldParts, fieldBytes, IsField}
 use Rattle.sim0mq.proofs.Answers.{bind-fine, guarded, and-true}
 use Rattle.writing.specs.Writing.{Opening, headerText, opening, afterOpening, Given, fieldGiven, takes, adding, afterAdding, closing, afterClosing, placed, bufferAfter}
-use Rattle.writing.specs.History.{Point, adds, closes, givenAfter, closingsAfter, next, History, opened, called, bytesOf}
-use Rattle.writing.specs.Promises.{Holds}
+use Rattle.returning.specs.History.{Point, adds, closes, givenAfter, closingsAfter, next, History, opened, called, bytesOf}
+use Rattle.returning.specs.Promises.{Holds}
 use Rattle.writing.specs.declared.Writer.{Writer}
-use Rattle.writing.proofs.JoinLaws.{flat-append}
-use Rattle.writing.proofs.GivenLaws.{FoundGiven, given-sound}
-use Rattle.writing.proofs.OpenLaws.{fitting-sound, Opened, opening-sound}
+use Rattle.returning.proofs.JoinLaws.{flat-append}
+use Rattle.returning.proofs.GivenLaws.{FoundGiven, given-sound}
+use Rattle.returning.proofs.OpenLaws.{fitting-sound, Opened, opening-sound}
 
 -- a text placed where what was written ends
 grown : (x l out : List ℕ) (w : ℕ) → w ≡ length x → placed (x ++ drop w out) w l ≡ x ++ (l ++ drop (w + length l) out)

@@ -24,17 +24,17 @@ use Rattle.asking.specs.declared.scalars.Scalar.{Scalar}
 use Rattle.asking.proofs.AskLaws.{asked-nth}
 use Rattle.asking.proofs.BackLaws.{part-back}
 use Rattle.asking.proofs.Promises.{asking-agrees-with-reading, value-is-its-bytes}
 use Rattle.writing.specs.Scalars.{scalarText, writable, scalarGiven}
 use Rattle.writing.specs.Writing.{Opening, countCode, numberText, headerWith, headerText, Given, scalar, fieldGiven}
-use Rattle.writing.specs.History.{Point, Finished, bytesOf}
-use Rattle.writing.specs.Promises.{Held, framePlace, SaysHeader, ReadsBack}
+use Rattle.returning.specs.History.{Point, Finished, bytesOf}
+use Rattle.returning.specs.Promises.{Held, framePlace, SaysHeader, ReadsBack}
 use Rattle.writing.proofs.PlaceLaws.{big-length}
-use Rattle.writing.proofs.NumberLaws.{number-read, signed-back, bits-held}
-use Rattle.writing.proofs.ScalarLaws.{scalar-back}
-use Rattle.writing.proofs.JoinLaws.{flat-same, four-long}
-use Rattle.writing.proofs.GivenLaws.{own-fields}
-use Rattle.writing.proofs.HistoryLaws.{Taken, Known}
-use Rattle.writing.proofs.OpenLaws.{openedParts, Opened, status-byte}
+use Rattle.returning.proofs.NumberLaws.{number-read, signed-back, bits-held}
+use Rattle.returning.proofs.ScalarLaws.{scalar-back}
+use Rattle.returning.proofs.JoinLaws.{flat-same, four-long}
+use Rattle.returning.proofs.GivenLaws.{own-fields}
+use Rattle.returning.proofs.HistoryLaws.{Taken, Known}
+use Rattle.returning.proofs.OpenLaws.{openedParts, Opened, status-byte}
 
 -- the message of a header and fields, and what reading finds in it
 module _ (o : Opening) (room : ℕ) (h : Opened o room (headerText o)) (fs : List FieldParts) where

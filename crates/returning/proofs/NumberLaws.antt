@@ -15,8 +15,8 @@ use Rattle.sim0mq.specs.Allowed.{numberAfter, number, Each, none, IsMark, Field
 use Rattle.sim0mq.proofs.Stands.{Stands, big-number}
 use Rattle.asking.specs.Scalars.{twos}
 use Rattle.asking.specs.Bytes.{bigBytes, bitsOf}
-use Rattle.writing.specs.Promises.{InWidth}
+use Rattle.returning.specs.Promises.{InWidth}
 use Rattle.writing.proofs.PlaceLaws.{big-length}
 
 -- one byte more weighs least
 number-last : (a : ℕ) (l : List ℕ) (b : ℕ) → numberAfter a (l ++ (b ∷ [])) ≡ numberAfter a l * 256 + b

@@ -17,11 +17,11 @@ use Rattle.sim0mq.proofs.Answers.{bind-fine, guarded, fine-eq, and-true}
 use Rattle.sim0mq.proofs.Stands.{stands-self, stands-same}
 use Rattle.sim0mq.proofs.Rows.{allPass, count-scalar}
 use Rattle.asking.specs.Bytes.{bigBytes, bitsOf}
 use Rattle.writing.specs.Writing.{Opening, countCode, holds, numberText, headerWith, headerText, idsFrom, fitting, opening}
-use Rattle.writing.proofs.NumberLaws.{numberParts, number-back, first-byte}
-use Rattle.writing.proofs.FrameLaws.{oneNumber, number-frame}
-use Rattle.writing.proofs.JoinLaws.{flat-append}
-use Rattle.writing.proofs.IdLaws.{ids-sound}
+use Rattle.returning.proofs.NumberLaws.{numberParts, number-back, first-byte}
+use Rattle.returning.proofs.FrameLaws.{oneNumber, number-frame}
+use Rattle.returning.proofs.JoinLaws.{flat-append}
+use Rattle.returning.proofs.IdLaws.{ids-sound}
 
 -- what fits stays within the limit and the room
 pub fitting-sound : (written room : ℕ) (text l : List ℕ) → fitting written room text ≡ fine l

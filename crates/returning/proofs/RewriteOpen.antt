@@ -21,11 +21,11 @@ use Rattle.asking.specs.Bytes.{bigBytes, bitsOf}
 use Rattle.asking.specs.Scalars.{twos}
 use Rattle.asking.proofs.ByteLaws.{bytes-back, big-fits, bits-back}
 use Rattle.asking.proofs.BackLaws.{part-back, one-byte}
 use Rattle.writing.specs.Writing.{Opening, asksFor, countCode, holds, numberText, headerWith, headerText, idsFrom, fitting, opening}
 use Rattle.writing.specs.declared.CountType.the-variants.{Stated}
-use Rattle.writing.proofs.FrameLaws.{oneNumber, frame-text}
-use Rattle.writing.proofs.IdLaws.{ids-complete}
-use Rattle.writing.proofs.JoinLaws.{flat-append}
+use Rattle.returning.proofs.FrameLaws.{oneNumber, frame-text}
+use Rattle.returning.proofs.IdLaws.{ids-complete}
+use Rattle.returning.proofs.JoinLaws.{flat-append}
 
 -- an opening that passes each test is granted
 opening-fine : (o : Opening) (room end : ℕ) → idsFrom (o .ids) 4 0 ≡ fine end → statusTaken (o .status) ≡ true

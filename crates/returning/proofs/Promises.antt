@@ -1,10 +1,10 @@
 -- The promises hold since every point of a history is known, and what reading finds in a finished message was written so.
 use mathlib.Core.Path.{refl, sym, _∙_}
 use mathlib.Core.Bool.{false≢true}
-use Rattle.writing.specs.Promises.{Finished-reads-back, Buffer-holds-what-was-written, No-message-without-closing, Rewriting-gives-the-same, Refused-call-changes-nothing}
-use Rattle.writing.proofs.HistoryLaws.{known}
-use Rattle.writing.proofs.ReadLaws.{reads-back}
-use Rattle.writing.proofs.RewriteLaws.{rewriting}
+use Rattle.returning.specs.Promises.{Finished-reads-back, Buffer-holds-what-was-written, No-message-without-closing, Rewriting-gives-the-same, Refused-call-changes-nothing}
+use Rattle.returning.proofs.HistoryLaws.{known}
+use Rattle.returning.proofs.ReadLaws.{reads-back}
+use Rattle.returning.proofs.RewriteLaws.{rewriting}
 
 pub finished-reads-back : Finished-reads-back
 finished-reads-back o out p s h end = reads-back o out p s (known h) end

@@ -13,7 +13,7 @@ use Rattle.sim0mq.specs.Allowed.{FieldParts, joined, fieldBytes, marksAsked, Is
 use Rattle.sim0mq.proofs.Answers.{and-true}
 use Rattle.sim0mq.proofs.HeaderLaws.{scalar-size}
 use Rattle.sim0mq.proofs.Rows.{allPass, pass-among}
-use Rattle.writing.proofs.NumberLaws.{numberParts, number-is}
+use Rattle.returning.proofs.NumberLaws.{numberParts, number-is}
 
 -- a field of this code is one number
 unfoldable pub oneNumber : ℕ → Bool

@@ -18,10 +18,10 @@ use Rattle.asking.specs.Promises.{ownBytes}
 use Rattle.asking.specs.Scalars.{twos, value}
 use Rattle.asking.specs.declared.scalars.Scalar.{Scalar}
 use Rattle.asking.specs.declared.scalars.Scalar.the-variants.{Byte, Short, Int, Long, Float, Double, Boolean, Char8, Char16, FloatUnit, DoubleUnit, NotNumber}
 use Rattle.writing.specs.Writing.{Opening, countCode, headerText, opening, afterOpening, Given, encoded, scalar, adding, afterAdding, closing, afterClosing, bufferAfter}
-use Rattle.writing.specs.History.{Point, start, adds, closes, History, afterCalls, Finished, bytesOf}
+use Rattle.returning.specs.History.{Point, start, adds, closes, History, afterCalls, Finished, bytesOf}
 use Rattle.writing.specs.declared.CountType.the-variants.{Stated}
 use Rattle.writing.specs.declared.Writer.{Writer}
 
 -- A signed number of w bits; and a scalar whose numbers lie in their widths, as the types of the code see to.
 abbrev pub InWidth : ℕ → ℤ → Type 0
