@@ -49,6 +49,7 @@ use Rattle.writing.proofs.Writer.open.Reads as opening
 use Rattle.writing.proofs.Writer.add.Reads as add
 use Rattle.writing.proofs.Writer.add_scalar.Reads as add-scalar
 use Rattle.writing.proofs.Writer.close.Reads as close
+use Rattle.writing.proofs.signed.bits.Reads as bits
 use Rattle.exports.proofs.sim0mq_read.Reads as c-read
 use Rattle.exports.proofs.sim0mq_judge.Reads as c-judge
 use Rattle.exports.proofs.sim0mq_value.Reads as c-value
@@ -236,6 +237,9 @@ add-scalar-out = equated add-scalar.Post (λ κs z e. now (e .1 .1 .0)) _ (λ κ
 
 pub close-result : Determines close.Post (λ κs z e. z)
 close-result = equated close.Post (λ κs z e. z) _ (λ κs a z e p. p)
+
+pub bits-result : Determines bits.Post (λ κs z e. z)
+bits-result = equated bits.Post (λ κs z e. z) _ (λ κs a z e p. p)
 
 -- The calls of crate exports.
 pub c-read-result : Determines c-read.Post (λ κs z e. z)

@@ -9,8 +9,8 @@ use lib.Ieee.{Format, Float, nan, ne, toBits}
 use lib.Ieee.Compare.{differs-from-itself}
 use Rattle.asking.specs.Bytes.{bitsOf}
 use Rattle.asking.specs.declared.scalars.Mark.{Mark}
-use Rattle.writing.specs.Puts.{bitsUpTo}
-use Rattle.writing.proofs.EncodeCases.{bits-of}
+use Rattle.writing.specs.Signed.{bitsUpTo}
+use Rattle.writing.proofs.SignedLaws.{bits-of}
 use Rattle.exports.specs.Scalars.{withMark, withNone}
 
 -- What differs from itself is the NaN.

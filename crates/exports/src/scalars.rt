@@ -5,7 +5,6 @@ ghost use Prim.Native.Nat.{_<_};
 ghost use lib.Ieee.{binary32, binary64, toBits};
 ghost use lib.ListN.{getD};
 ghost use Rattle.asking.specs.Scalars.{valued};
-ghost use Rattle.writing.specs.Puts.{bitsUpTo, HeldUpTo};
 ghost use Rattle.exports.specs.Scalars.{withMark, withNone, scalarNumbers, valueNumbers, from8, from16, from32, scalarFrom};
 use asking::scalars::Mark;
 use asking::scalars::Scalar;
@@ -18,18 +17,7 @@ use asking::scalars::i8_of;
 use asking::scalars::i16_of;
 use asking::scalars::i32_of;
 use asking::scalars::i64_of;
-
-// The bits of z in a width whose largest number is `most`.
-fn bits(z: i64, most: u64) -> u64
-    requires { ⌜ HeldUpTo most z ⌝ }
-    ensures { λ r. ⌜ r ≡ bitsUpTo most z ⌝ }
-{
-    if 0 <= z {
-        return z as u64;
-    }
-    let below = -1 - z;
-    most - (below as u64)
-}
+use writing::signed::bits;
 
 // The bits of a float; of a NaN, which asking never answers, the pattern with the sign clear and only the highest digit set.
 fn float_bits(x: f32) -> u64

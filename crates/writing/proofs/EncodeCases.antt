@@ -7,13 +7,11 @@ use native.Mathlib.Omega.{arith}
 use lib.Dec.{T, eqb}
 use lib.Ieee.{Float, binary32, fits, toBits}
 use lib.Ieee.Bits.{toBits-lt}
-use lib.IntN.{ℤ, pos, negsuc, _-ℤ_, natAbs}
+use lib.IntN.{ℤ}
 use lib.ListN.{length, getD, set, replicate, length-append, length-set}
-use lib.Signed.{mag, leZ}
-use borrow.Author.Tests.{leb-false, le-leb, lt-leb, eq-eqb, ne-eqb}
-use mir.Syntax.{Width, w64}
-use mir.Val.{Fits, SFits, toZ, ofZ, hbits, boolByte}
-use mir.ValLaws.{toZ-ofZ}
+use borrow.Author.Tests.{le-leb, lt-leb, eq-eqb, ne-eqb}
+use mir.Syntax.{w64}
+use mir.Val.{Fits, boolByte}
 use Rattle.sim0mq.specs.Answer.{fine, refused}
 use Rattle.sim0mq.specs.Mark.{perRow, Kind, plain, money, moneyPer, unknown, kindOf, currencyTaken, displayTaken}
 use Rattle.payload.proofs.MarkCases.{kind-plain, kind-between, kind-money, kind-per, kind-above}
@@ -21,58 +19,13 @@ use Rattle.asking.specs.Bytes.{bigBytes, bitsOf, scalarBytes, bytesOfMark, mark
 use Rattle.asking.specs.declared.scalars.Mark.{Mark}
 use Rattle.asking.specs.declared.scalars.Scalar.{Scalar}
 use Rattle.asking.specs.declared.scalars.Scalar.the-variants.{Boolean}
-use Rattle.asking.proofs.Signed.{down, widened}
 use Rattle.writing.specs.declared.scalars.Encoded.{Encoded}
 use Rattle.writing.specs.Scalars.{codeOf, scalarText, markTaken, writable, scalarGiven}
 use Rattle.writing.specs.Writing.{numberText, placed}
-use Rattle.writing.specs.Puts.{bitsUpTo, HeldUpTo, encodedAs, markedGiven}
+use Rattle.writing.specs.Signed.{bitsUpTo}
+use Rattle.writing.specs.Puts.{encodedAs, markedGiven}
 use Rattle.writing.proofs.PlaceLaws.{placed-length, placed-on, placed-byte, placed-coded, big-length}
-
--- the bits of a signed number are those in a width whose largest number is 2 ^ w - 1
-pub bits-of : (w : ℕ) (z : ℤ) → bitsUpTo (2 ^ w - 1) z ≡ bitsOf w z
-unfolding bitsUpTo bitsOf
-bits-of w (pos n) = refl
-bits-of w (negsuc n) = omega arith
-
-up-bits : (most : ℕ) (z : ℤ) → leZ (pos 0) z ≡ true → natAbs z ≡ bitsUpTo most z
-unfolding bitsUpTo
-up-bits most (pos n) e = refl
-up-bits most (negsuc n) e = absurd (true≢false (sym e))
-
-down-bits : (most : ℕ) (z : ℤ) → leZ (pos 0) z ≡ false → most - mag z ≡ bitsUpTo most z
-unfolding bitsUpTo
-down-bits most (pos n) e = let h : n < 0 = leb-false 0 n e in absurd (omega arith)
-down-bits most (negsuc n) e = refl
-
-down-held : (most : ℕ) (z : ℤ) → leZ (pos 0) z ≡ false → HeldUpTo most z → mag z ≤ most
-down-held most (pos n) e h = let k : n < 0 = leb-false 0 n e in absurd (omega arith)
-down-held most (negsuc n) e h = h
-
-held-by : (most : ℕ) (z : ℤ) → mag z ≤ most → HeldUpTo most z
-held-by most (pos n) h = tt
-held-by most (negsuc n) h = h
-
--- a signed number that the code tests against 0
-module _ (w : Width) (most : ℕ) (z : ℤ) (f : SFits w z) where
-  pub bits-up : leZ (pos 0) (toZ w (ofZ w z)) ≡ true → natAbs (toZ w (ofZ w z)) ≡ bitsUpTo most z
-  bits-up e = rw (toZ-ofZ w z f) (up-bits most z (rw (toZ-ofZ w z f) at e))
-
-  pub bits-down : leZ (pos 0) (toZ w (ofZ w z)) ≡ false → most - natAbs (toZ w (ofZ w (negsuc 0 -ℤ toZ w (ofZ w z)))) ≡ bitsUpTo most z
-  bits-down e = rw (down w z f e) (down-bits most z (rw (toZ-ofZ w z f) at e))
-
-  pub bits-held : leZ (pos 0) (toZ w (ofZ w z)) ≡ false → HeldUpTo most z → natAbs (toZ w (ofZ w (negsuc 0 -ℤ toZ w (ofZ w z)))) ≤ most
-  bits-held e h = rw (down w z f e) (down-held most z (rw (toZ-ofZ w z f) at e) h)
-
--- a signed number that the code widens, and what holds it
-module _ (w : Width) (z : ℤ) (f : SFits w z) where
-  pub wider : (v : Width) → 2 ^ hbits w ≤ 2 ^ hbits v → toZ v (ofZ v (toZ w (ofZ w z))) ≡ z
-  wider v h = toZ-ofZ v (toZ w (ofZ w z)) (widened w z f v h) ∙ toZ-ofZ w z f
-
-  pub bits-are : (v : ℕ) → bitsUpTo (2 ^ v - 1) (toZ w (ofZ w z)) ≡ bitsOf v z
-  bits-are v = ap (bitsUpTo (2 ^ v - 1)) (toZ-ofZ w z f) ∙ bits-of v z
-
-  pub held : (most : ℕ) (y : ℤ) → y ≡ z → 2 ^ hbits w ≤ most → HeldUpTo most y
-  held most y e h = rw e (held-by most z (omega (arith, f .sfits)))
+use Rattle.writing.proofs.SignedLaws.{bits-of}
 
 -- whether a mark is taken, whose unit type is u
 module _ (m : Mark) (u : ℕ) (is : u ≡ m .unit) where

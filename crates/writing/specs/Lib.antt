@@ -1,3 +1,4 @@
 pub mod Scalars
+pub mod Signed
 pub mod Writing
 pub mod Puts

@@ -1,9 +1,8 @@
 -- What the writer's inner functions answer, over the definitions of the writer.
-use Prim.Native.Nat.{ℕ, _+_, _-_, _≤_}
+use Prim.Native.Nat.{ℕ, _+_}
 use mathlib.Core.Bool.{_&&_}
 use mathlib.Core.List.{List, _∷_, _++_}
 use lib.Dec.{leb}
-use lib.IntN.{ℤ, pos, negsuc}
 use lib.ListN.{length, replicate}
 use Rattle.sim0mq.specs.Answer.{Answer, fine, refused, _>>=_, _>>_, guard}
 use Rattle.sim0mq.specs.Codes.{widthOf}
@@ -31,16 +30,6 @@ unfoldable pub openingJudged : List ℕ → ℕ → ℕ → ℕ → ℕ → Answ
 openingJudged ids status c fields room = do
   end ← idsFrom ids 4 0
   numbersJudged (length ids) status c fields room
-
--- The bits of a signed number in a width whose largest number is `most`.
-unfoldable pub bitsUpTo : ℕ → ℤ → ℕ
-bitsUpTo most (pos n) = n
-bitsUpTo most (negsuc n) = most - n
-
--- Such a number is held by that width.
-abbrev pub HeldUpTo : ℕ → ℤ → Type 0
-HeldUpTo most (pos n) = Unit {0}
-HeldUpTo most (negsuc n) = n ≤ most
 
 -- A field in 13 bytes, zero after it; and no field.
 abbrev pub encodedAs : Answer (List ℕ) → Encoded

@@ -17,6 +17,7 @@ use sim0mq::Refusal;
 mod frames;
 mod puts;
 mod scalars;
+pub mod signed;
 
 // The type code of the declared count: not stated, which is 1, or stated.
 pub enum CountType {

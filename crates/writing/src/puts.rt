@@ -4,19 +4,6 @@ ghost use Prim.Native.Nat.{_+_, _≤_};
 ghost use lib.ListN.{length};
 ghost use Rattle.asking.specs.Bytes.{bigBytes};
 ghost use Rattle.writing.specs.Writing.{numberText, placed};
-ghost use Rattle.writing.specs.Puts.{bitsUpTo, HeldUpTo};
-
-// The bits of z in a width whose largest number is `most`.
-pub(crate) fn bits(z: i64, most: u64) -> u64
-    requires { ⌜ HeldUpTo most z ⌝ }
-    ensures { λ r. ⌜ r ≡ bitsUpTo most z ⌝ }
-{
-    if 0 <= z {
-        return z as u64;
-    }
-    let below = -1 - z;
-    most - (below as u64)
-}
 
 // The bytes of `text` in `out` from `at` on.
 pub(crate) fn put(text: &[u8], out: &mut [u8], at: usize)

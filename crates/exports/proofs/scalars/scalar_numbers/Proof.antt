@@ -7,7 +7,7 @@ use mathlib.Core.List.{_∷_}
 use mir.Syntax.{w8, w16, w32, w64}
 use mir.ValLaws.{toZ-ofZ}
 use Rattle.asking.proofs.Signed.{widened}
-use Rattle.writing.proofs.EncodeCases.{wider, held}
+use Rattle.writing.proofs.SignedLaws.{wider}
 use Rattle.exports.specs.Scalars.{withNone, scalarNumbers}
 use Rattle.exports.proofs.ScalarLaws.{signed-numbers, marked-numbers, truth-number}
 use Rattle.exports.proofs.scalars.scalar_numbers.Statement.{statement}
@@ -20,9 +20,7 @@ cast-bits : tie.Need-cast-bits
 cast-bits c = widened w8 (c .before .v .given .0 .0) (search needs) w64 (omega arith)
 
 bits-requires : tie.Need-bits-requires
-bits-requires c κs =
-    let z = c .before .v .given .0 .0 in
-    held w8 z (search needs) _ _ (wider w8 z (search needs) w64 (omega arith)) (omega arith)
+bits-requires c κs = search needs
 
 unmarked-requires : tie.Need-unmarked-requires
 unmarked-requires c κs = search needs
@@ -34,9 +32,7 @@ cast-bits-2 : tie.Need-cast-bits-2
 cast-bits-2 c = widened w16 (c .before .v2 .given .0 .0) (search needs) w64 (omega arith)
 
 bits-requires-2 : tie.Need-bits-requires-2
-bits-requires-2 c κs =
-    let z = c .before .v2 .given .0 .0 in
-    held w16 z (search needs) _ _ (wider w16 z (search needs) w64 (omega arith)) (omega arith)
+bits-requires-2 c κs = search needs
 
 unmarked-requires-2 : tie.Need-unmarked-requires-2
 unmarked-requires-2 c κs = search needs
@@ -48,9 +44,7 @@ cast-bits-3 : tie.Need-cast-bits-3
 cast-bits-3 c = widened w32 (c .before .v3 .given .0 .0) (search needs) w64 (omega arith)
 
 bits-requires-3 : tie.Need-bits-requires-3
-bits-requires-3 c κs =
-    let z = c .before .v3 .given .0 .0 in
-    held w32 z (search needs) _ _ (wider w32 z (search needs) w64 (omega arith)) (omega arith)
+bits-requires-3 c κs = search needs
 
 unmarked-requires-3 : tie.Need-unmarked-requires-3
 unmarked-requires-3 c κs = search needs
@@ -59,9 +53,7 @@ enum-known-v-4 : tie.Need-enum-known-v-4
 enum-known-v-4 c = search needs
 
 bits-requires-4 : tie.Need-bits-requires-4
-bits-requires-4 c κs =
-    let z = c .before .v4 .given .0 .0 in
-    held w64 z (search needs) _ _ (toZ-ofZ w64 z (search needs)) (omega arith)
+bits-requires-4 c κs = search needs
 
 unmarked-requires-4 : tie.Need-unmarked-requires-4
 unmarked-requires-4 c κs = search needs

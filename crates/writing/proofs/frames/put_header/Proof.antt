@@ -4,8 +4,7 @@ use native.Mathlib.Omega.{arith}
 use mathlib.Core.Path.{ap, _∙_}
 use mir.Syntax.{w64}
 use Rattle.sim0mq.specs.Codes.{widthOf}
-use mir.ValLaws.{toZ-ofZ}
-use Rattle.writing.proofs.EncodeCases.{bits-are, held}
+use Rattle.writing.proofs.SignedLaws.{bits-are}
 use Rattle.writing.proofs.OpenCases.{header-within, header-placed}
 use Rattle.writing.proofs.frames.put_header.Statement.{statement}
 use Rattle.writing.proofs.frames.put_header.Tie as tie
@@ -23,7 +22,7 @@ add-at : tie.Need-add-at
 add-at c = search needs
 
 bits-requires : tie.Need-bits-requires
-bits-requires c κs = let start = c .before .before .before .before .before .before .before .before .before .before .before .before in held w64 (start .args .number) (start .fits .number) _ _ (toZ-ofZ w64 (start .args .number) (start .fits .number)) (omega arith)
+bits-requires c κs = search needs
 
 put-number-requires : tie.Need-put-number-requires
 put-number-requires c κs = let room = header-within _ _ _ _ _ _ (c .before .before .before .before .before .before .before .before .before .before .before .before .before .pre .1) in omega arith

@@ -8,7 +8,8 @@ use Rattle.asking.specs.Bytes.{markBytes, scalarBytes}
 use Rattle.asking.specs.declared.scalars.Scalar.the-variants.{Byte, Short, Int, Long, Boolean, Char8, Char16, NotNumber}
 use Rattle.asking.proofs.Signed.{widened}
 use Rattle.writing.specs.Scalars.{codeOf, scalarText, writable}
-use Rattle.writing.proofs.EncodeCases.{wider, held, unwritable, written, signed-written, truth-text}
+use Rattle.writing.proofs.SignedLaws.{wider}
+use Rattle.writing.proofs.EncodeCases.{unwritable, written, signed-written, truth-text}
 use Rattle.writing.proofs.scalars.encode.Statement.{statement}
 use Rattle.writing.proofs.scalars.encode.Tie as tie
 
@@ -19,9 +20,7 @@ cast-bits : tie.Need-cast-bits
 cast-bits c = widened w8 (c .before .value .given .0 .0) (search needs) w64 (omega arith)
 
 bits-requires : tie.Need-bits-requires
-bits-requires c κs =
-    let z = c .before .value .given .0 .0 in
-    held w8 z (search needs) _ _ (wider w8 z (search needs) w64 (omega arith)) (omega arith)
+bits-requires c κs = search needs
 
 plain-requires : tie.Need-plain-requires
 plain-requires c κs = search needs
@@ -33,9 +32,7 @@ cast-bits-2 : tie.Need-cast-bits-2
 cast-bits-2 c = widened w16 (c .before .value2 .given .0 .0) (search needs) w64 (omega arith)
 
 bits-requires-2 : tie.Need-bits-requires-2
-bits-requires-2 c κs =
-    let z = c .before .value2 .given .0 .0 in
-    held w16 z (search needs) _ _ (wider w16 z (search needs) w64 (omega arith)) (omega arith)
+bits-requires-2 c κs = search needs
 
 plain-requires-2 : tie.Need-plain-requires-2
 plain-requires-2 c κs = search needs
@@ -47,9 +44,7 @@ cast-bits-3 : tie.Need-cast-bits-3
 cast-bits-3 c = widened w32 (c .before .value3 .given .0 .0) (search needs) w64 (omega arith)
 
 bits-requires-3 : tie.Need-bits-requires-3
-bits-requires-3 c κs =
-    let z = c .before .value3 .given .0 .0 in
-    held w32 z (search needs) _ _ (wider w32 z (search needs) w64 (omega arith)) (omega arith)
+bits-requires-3 c κs = search needs
 
 plain-requires-3 : tie.Need-plain-requires-3
 plain-requires-3 c κs = search needs
@@ -58,9 +53,7 @@ enum-known-value-4 : tie.Need-enum-known-value-4
 enum-known-value-4 c = search needs
 
 bits-requires-4 : tie.Need-bits-requires-4
-bits-requires-4 c κs =
-    let z = c .before .value4 .given .0 .0 in
-    held w64 z (search needs) _ _ (toZ-ofZ w64 z (search needs)) (omega arith)
+bits-requires-4 c κs = search needs
 
 plain-requires-4 : tie.Need-plain-requires-4
 plain-requires-4 c κs = search needs
