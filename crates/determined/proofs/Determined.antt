@@ -50,6 +50,14 @@ use Rattle.writing.proofs.Writer.add.Reads as add
 use Rattle.writing.proofs.Writer.add_scalar.Reads as add-scalar
 use Rattle.writing.proofs.Writer.close.Reads as close
 use Rattle.writing.proofs.signed.bits.Reads as bits
+use Rattle.crossing.proofs.numbers.read_numbers.Reads as read-numbers
+use Rattle.crossing.proofs.numbers.length_numbers.Reads as length-numbers
+use Rattle.crossing.proofs.numbers.view_numbers.Reads as view-numbers
+use Rattle.crossing.proofs.numbers.wrote_numbers.Reads as wrote-numbers
+use Rattle.crossing.proofs.numbers.writer_of.Reads as writer-of
+use Rattle.crossing.proofs.numbers.count_type.Reads as count-type
+use Rattle.crossing.proofs.scalars.value_numbers.Reads as value-numbers
+use Rattle.crossing.proofs.scalars.scalar_from.Reads as scalar-from
 use Rattle.exports.proofs.sim0mq_read.Reads as c-read
 use Rattle.exports.proofs.sim0mq_judge.Reads as c-judge
 use Rattle.exports.proofs.sim0mq_value.Reads as c-value
@@ -240,6 +248,31 @@ close-result = equated close.Post (λ κs z e. z) _ (λ κs a z e p. p)
 
 pub bits-result : Determines bits.Post (λ κs z e. z)
 bits-result = equated bits.Post (λ κs z e. z) _ (λ κs a z e p. p)
+
+-- The calls of crate crossing.
+pub read-numbers-result : Determines read-numbers.Post (λ κs z e. z)
+read-numbers-result = equated read-numbers.Post (λ κs z e. z) _ (λ κs a z e p. p .0)
+
+pub length-numbers-result : Determines length-numbers.Post (λ κs z e. z)
+length-numbers-result = equated length-numbers.Post (λ κs z e. z) _ (λ κs a z e p. p .0)
+
+pub view-numbers-result : Determines view-numbers.Post (λ κs z e. z)
+view-numbers-result = equated view-numbers.Post (λ κs z e. z) _ (λ κs a z e p. p .0)
+
+pub wrote-numbers-result : Determines wrote-numbers.Post (λ κs z e. z)
+wrote-numbers-result = equated wrote-numbers.Post (λ κs z e. z) _ (λ κs a z e p. p .0)
+
+pub writer-of-result : Determines writer-of.Post (λ κs z e. z)
+writer-of-result = equated writer-of.Post (λ κs z e. z) _ (λ κs a z e p. p)
+
+pub count-type-result : Determines count-type.Post (λ κs z e. z)
+count-type-result = equated count-type.Post (λ κs z e. z) _ (λ κs a z e p. p)
+
+pub value-numbers-result : Determines value-numbers.Post (λ κs z e. z)
+value-numbers-result = equated value-numbers.Post (λ κs z e. z) _ (λ κs a z e p. p .0)
+
+pub scalar-from-result : Determines scalar-from.Post (λ κs z e. z)
+scalar-from-result = equated scalar-from.Post (λ κs z e. z) _ (λ κs a z e p. p)
 
 -- The calls of crate exports.
 pub c-read-result : Determines c-read.Post (λ κs z e. z)

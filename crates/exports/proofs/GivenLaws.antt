@@ -6,7 +6,7 @@ use mathlib.Core.Bool.{Bool, cond}
 use mathlib.Core.List.{List}
 use lib.ListN.{length, getD}
 use Rattle.sim0mq.specs.Table.{stored}
-use Rattle.exports.specs.Numbers.{given, returned, answerAfter}
+use Rattle.exports.specs.Given.{given, returned, answerAfter}
 
 -- Too short, all is as it was.
 pub given-short : {A : Type 0} (n : ℕ) (answer : List ℕ) (after before : A) → length answer < n → before ≡ given n answer after before

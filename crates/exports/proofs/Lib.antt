@@ -1,4 +1,2 @@
-pub mod NumberLaws
 pub mod GivenLaws
-pub mod ScalarLaws
 pub mod WriterLaws

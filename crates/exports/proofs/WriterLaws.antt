@@ -1,33 +1,13 @@
--- The writer's calls in numbers: each case of an answer, and a state that is told by its numbers.
+-- A call of the writer is the same on equal states, fields and openings, so the state may be told by its numbers.
 use Prim.Native.Nat.{ℕ}
-use mathlib.Core.Path.{_≡_, sym, ap, _∙_}
-use mathlib.Core.List.{List, [], _∷_, _++_}
+use mathlib.Core.Path.{_≡_, ap, _∙_}
+use mathlib.Core.List.{List}
 use lib.IntN.{ℤ}
 use lib.ListN.{length}
-use mir.Val.{boolByte}
-use Rattle.sim0mq.specs.Views.{judged}
-use Rattle.sim0mq.specs.declared.Judged.{Judged}
-use Rattle.sim0mq.specs.declared.Judged.the-variants.{Accepted, Refused}
-use Rattle.sim0mq.specs.declared.Refusal.{Refusal}
 use Rattle.writing.specs.Writing.{Opening, asksFor, opening, afterOpening, Given, adding, afterAdding, closing, afterClosing, bufferAfter}
 use Rattle.writing.specs.declared.CountType.{CountType}
 use Rattle.writing.specs.declared.Writer.{Writer}
 use Rattle.writing.specs.declared.Wrote.{Wrote}
-use Rattle.exports.specs.Numbers.{lengthNumbers, stateNumbers}
-use Rattle.exports.proofs.ScalarLaws.{truth-number}
-
--- The numbers of an answer, before those of the state.
-pub wrote-refused : (said : Judged) (w : Writer) (r : Refusal) → said ≡ Refused r
-    → r .number ∷ r .place ∷ 0 ∷ w .written ∷ w .declared ∷ w .added ∷ boolByte (w .closed) ∷ [] ≡ lengthNumbers (judged said) ++ stateNumbers w
-wrote-refused said w r e =
-    ap (λ (n : ℕ). r .number ∷ r .place ∷ 0 ∷ w .written ∷ w .declared ∷ w .added ∷ n ∷ []) (truth-number (w .closed))
-    ∙ sym (ap (λ (s : Judged). lengthNumbers (judged s) ++ stateNumbers w) e)
-
-pub wrote-accepted : (said : Judged) (w : Writer) (n : ℕ) → said ≡ Accepted n
-    → 0 ∷ 0 ∷ n ∷ w .written ∷ w .declared ∷ w .added ∷ boolByte (w .closed) ∷ [] ≡ lengthNumbers (judged said) ++ stateNumbers w
-wrote-accepted said w n e =
-    ap (λ (x : ℕ). 0 ∷ 0 ∷ n ∷ w .written ∷ w .declared ∷ w .added ∷ x ∷ []) (truth-number (w .closed))
-    ∙ sym (ap (λ (s : Judged). lengthNumbers (judged s) ++ stateNumbers w) e)
 
 -- The call of a state is that of the state which its numbers tell, and so with what is given to be added.
 module _ (w v : Writer) (e : w ≡ v) where

@@ -1,7 +1,7 @@
 -- Where there is room, the numbers are those of what `blank` answers, and `out` is as it leaves it.
 use borrow.Author.Needs.{needs}
 use mathlib.Core.Path.{ap, _∙_}
-use Rattle.exports.specs.Numbers.{lengthNumbers}
+use Rattle.crossing.specs.Numbers.{lengthNumbers}
 use Rattle.exports.proofs.GivenLaws.{given-short, given-room, returned-short, answered-short, returned-room, answered-room}
 use Rattle.exports.proofs.sim0mq_blank.Statement.{statement}
 use Rattle.exports.proofs.sim0mq_blank.Tie as tie

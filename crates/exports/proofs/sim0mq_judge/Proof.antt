@@ -1,7 +1,7 @@
 -- Where there is room, the numbers are those of what `judge` answers.
 use borrow.Author.Needs.{needs}
 use mathlib.Core.Path.{ap, _∙_}
-use Rattle.exports.specs.Numbers.{readNumbers}
+use Rattle.crossing.specs.Numbers.{readNumbers}
 use Rattle.exports.proofs.GivenLaws.{returned-short, answered-short, returned-room, answered-room}
 use Rattle.exports.proofs.sim0mq_judge.Statement.{statement}
 use Rattle.exports.proofs.sim0mq_judge.Tie as tie

@@ -3,7 +3,7 @@ use borrow.Author.Needs.{needs}
 use mathlib.Core.Path.{ap, _∙_}
 use mir.Syntax.{w64}
 use mir.ValLaws.{toZ-ofZ}
-use Rattle.exports.specs.Numbers.{wroteNumbers}
+use Rattle.crossing.specs.Numbers.{wroteNumbers}
 use Rattle.exports.proofs.GivenLaws.{given-short, given-room, returned-short, answered-short, returned-room, answered-room}
 use Rattle.exports.proofs.WriterLaws.{opened-as, header-as}
 use Rattle.exports.proofs.sim0mq_open.Statement.{statement}

@@ -1,7 +1,7 @@
 -- Where there is room, the numbers are those of what `read` answers, and the table is as it leaves it.
 use borrow.Author.Needs.{needs}
 use mathlib.Core.Path.{ap, _∙_}
-use Rattle.exports.specs.Numbers.{readNumbers}
+use Rattle.crossing.specs.Numbers.{readNumbers}
 use Rattle.exports.proofs.GivenLaws.{given-short, given-room, returned-short, answered-short, returned-room, answered-room}
 use Rattle.exports.proofs.sim0mq_read.Statement.{statement}
 use Rattle.exports.proofs.sim0mq_read.Tie as tie
