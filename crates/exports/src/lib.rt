@@ -34,6 +34,25 @@ mod giving;
 // What the caller gets where the lent answer is too short.
 const TOO_SHORT: u32 = 255;
 
+// How many numbers each call answers.
+const READ: usize = 21;
+
+const JUDGE: usize = 21;
+
+const VALUE: usize = 7;
+
+const VIEW: usize = 4;
+
+const BLANK: usize = 3;
+
+const OPEN: usize = 7;
+
+const ADD: usize = 7;
+
+const ADD_SCALAR: usize = 7;
+
+const CLOSE: usize = 7;
+
 // Reads the message, and stores its rows in the table once it is accepted; answers the 21 numbers of `readNumbers`.
 #[no_mangle]
 pub extern "C" fn sim0mq_read(message: &[u8], table: &mut [u32], answer: &mut [u64]) -> u32
@@ -41,7 +60,7 @@ pub extern "C" fn sim0mq_read(message: &[u8], table: &mut [u32], answer: &mut [u
     ensures stored { λ _. ⌜ now (table .exit) ≡ given 21 (now (answer .entry)) (tableAfter (now (table .entry)) (readingOf (tableOf (length (now (table .entry)))) (now (message .entry)))) (now (table .entry)) ⌝ }
     ensures answered { λ _. ⌜ now (answer .exit) ≡ answerAfter 21 (now (answer .entry)) (readNumbers (answered (readingOf (tableOf (length (now (table .entry)))) (now (message .entry))))) ⌝ }
 {
-    if answer.len() < 21 {
+    if answer.len() < READ {
         return TOO_SHORT;
     }
     let a = read(message, table);
@@ -57,7 +76,7 @@ pub extern "C" fn sim0mq_judge(message: &[u8], answer: &mut [u64]) -> u32
     ensures returned { λ r. ⌜ r ≡ returned 21 (now (answer .entry)) (readNumbers (answered (readingOf noTable (now (message .entry))))) ⌝ }
     ensures answered { λ _. ⌜ now (answer .exit) ≡ answerAfter 21 (now (answer .entry)) (readNumbers (answered (readingOf noTable (now (message .entry))))) ⌝ }
 {
-    if answer.len() < 21 {
+    if answer.len() < JUDGE {
         return TOO_SHORT;
     }
     let a = judge(message);
@@ -73,7 +92,7 @@ pub extern "C" fn sim0mq_value(message: &[u8], k: u64, answer: &mut [u64]) -> u3
     ensures returned { λ r. ⌜ r ≡ returned 7 (now (answer .entry)) (valueNumbers (valueOf (now (message .entry)) k)) ⌝ }
     ensures answered { λ _. ⌜ now (answer .exit) ≡ answerAfter 7 (now (answer .entry)) (valueNumbers (valueOf (now (message .entry)) k)) ⌝ }
 {
-    if answer.len() < 7 {
+    if answer.len() < VALUE {
         return TOO_SHORT;
     }
     let numbers = value_numbers(value(message, k as usize));
@@ -86,7 +105,7 @@ pub extern "C" fn sim0mq_view(message: &[u8], k: u64, answer: &mut [u64]) -> u32
     ensures returned { λ r. ⌜ r ≡ returned 4 (now (answer .entry)) (viewNumbers (asked (now (message .entry)) k)) ⌝ }
     ensures answered { λ _. ⌜ now (answer .exit) ≡ answerAfter 4 (now (answer .entry)) (viewNumbers (asked (now (message .entry)) k)) ⌝ }
 {
-    if answer.len() < 4 {
+    if answer.len() < VIEW {
         return TOO_SHORT;
     }
     let numbers = view_numbers(ask(message, k as usize));
@@ -100,7 +119,7 @@ pub extern "C" fn sim0mq_blank(message: &[u8], out: &mut [u8], answer: &mut [u64
     ensures copied { λ _. ⌜ now (out .exit) ≡ given 3 (now (answer .entry)) (outputAfter (now (out .entry)) (blanking (length (now (out .entry))) (now (message .entry)))) (now (out .entry)) ⌝ }
     ensures answered { λ _. ⌜ now (answer .exit) ≡ answerAfter 3 (now (answer .entry)) (lengthNumbers (lengthOf (blanking (length (now (out .entry))) (now (message .entry))))) ⌝ }
 {
-    if answer.len() < 3 {
+    if answer.len() < BLANK {
         return TOO_SHORT;
     }
     let numbers = length_numbers(blank(message, out));
@@ -124,7 +143,7 @@ pub extern "C" fn sim0mq_open(
     ensures written { λ _. ⌜ now (out .exit) ≡ given 7 (now (answer .entry)) (bufferAfter (now (out .entry)) 0 (opening (asksFor (now (ids .entry)) number status fields (countType stated kind)) (length (now (out .entry))))) (now (out .entry)) ⌝ }
     ensures answered { λ _. ⌜ now (answer .exit) ≡ answerAfter 7 (now (answer .entry)) (wroteNumbers (afterOpening (asksFor (now (ids .entry)) number status fields (countType stated kind)) (opening (asksFor (now (ids .entry)) number status fields (countType stated kind)) (length (now (out .entry)))))) ⌝ }
 {
-    if answer.len() < 7 {
+    if answer.len() < OPEN {
         return TOO_SHORT;
     }
     let w = Writer::open(
@@ -156,7 +175,7 @@ pub extern "C" fn sim0mq_add(
     ensures written { λ _. ⌜ now (out .exit) ≡ given 7 (now (answer .entry)) (bufferAfter (now (out .entry)) written (adding (writerOf written declared added closed) (length (now (out .entry))) (encoded (now (field .entry))))) (now (out .entry)) ⌝ }
     ensures answered { λ _. ⌜ now (answer .exit) ≡ answerAfter 7 (now (answer .entry)) (wroteNumbers (afterAdding (writerOf written declared added closed) (adding (writerOf written declared added closed) (length (now (out .entry))) (encoded (now (field .entry)))))) ⌝ }
 {
-    if answer.len() < 7 {
+    if answer.len() < ADD {
         return TOO_SHORT;
     }
     let w = writer_of(written, declared, added, closed).add(field, out);
@@ -185,7 +204,7 @@ pub extern "C" fn sim0mq_add_scalar(
     ensures written { λ _. ⌜ now (out .exit) ≡ given 7 (now (answer .entry)) (bufferAfter (now (out .entry)) written (adding (writerOf written declared added closed) (length (now (out .entry))) (scalar (scalarFrom kind bits (markFrom unit currency display))))) (now (out .entry)) ⌝ }
     ensures answered { λ _. ⌜ now (answer .exit) ≡ answerAfter 7 (now (answer .entry)) (wroteNumbers (afterAdding (writerOf written declared added closed) (adding (writerOf written declared added closed) (length (now (out .entry))) (scalar (scalarFrom kind bits (markFrom unit currency display)))))) ⌝ }
 {
-    if answer.len() < 7 {
+    if answer.len() < ADD_SCALAR {
         return TOO_SHORT;
     }
     let mark = Mark {
@@ -213,7 +232,7 @@ pub extern "C" fn sim0mq_close(
     ensures returned { λ r. ⌜ r ≡ returned 7 (now (answer .entry)) (wroteNumbers (afterClosing (writerOf written declared added closed) (closing (writerOf written declared added closed)))) ⌝ }
     ensures answered { λ _. ⌜ now (answer .exit) ≡ answerAfter 7 (now (answer .entry)) (wroteNumbers (afterClosing (writerOf written declared added closed) (closing (writerOf written declared added closed)))) ⌝ }
 {
-    if answer.len() < 7 {
+    if answer.len() < CLOSE {
         return TOO_SHORT;
     }
     let w = writer_of(written, declared, added, closed).close();

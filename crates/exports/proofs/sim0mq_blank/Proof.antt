@@ -1,5 +1,6 @@
 -- Where there is room, the numbers are those of what `blank` answers, and `out` is as it leaves it.
 use borrow.Author.Needs.{needs}
+use native.Mathlib.Omega.{arith}
 use mathlib.Core.Path.{ap, _∙_}
 use Rattle.crossing.specs.Numbers.{lengthNumbers}
 use Rattle.exports.proofs.GivenLaws.{given-short, given-room, returned-short, answered-short, returned-room, answered-room}
@@ -7,7 +8,7 @@ use Rattle.exports.proofs.sim0mq_blank.Statement.{statement}
 use Rattle.exports.proofs.sim0mq_blank.Tie as tie
 
 returns : tie.Need-returns
-returns c = (returned-short _ _ _ (c .if1 .taken), (given-short _ _ _ _ (c .if1 .taken), answered-short _ _ _ (c .if1 .taken)))
+returns c = (returned-short 3 _ _ (omega (arith, c .if1 .taken)), (given-short 3 _ _ _ (omega (arith, c .if1 .taken)), answered-short 3 _ _ (omega (arith, c .if1 .taken))))
 
 blank-requires : tie.Need-blank-requires
 blank-requires c κs = search needs

@@ -1,5 +1,6 @@
 -- Where there is room, the numbers are those of what `ask` answers.
 use borrow.Author.Needs.{needs}
+use native.Mathlib.Omega.{arith}
 use mathlib.Core.Path.{ap, _∙_}
 use Rattle.crossing.specs.Numbers.{viewNumbers}
 use Rattle.exports.proofs.GivenLaws.{returned-short, answered-short, returned-room, answered-room}
@@ -7,7 +8,7 @@ use Rattle.exports.proofs.sim0mq_view.Statement.{statement}
 use Rattle.exports.proofs.sim0mq_view.Tie as tie
 
 returns : tie.Need-returns
-returns c = (returned-short _ _ _ (c .if1 .taken), answered-short _ _ _ (c .if1 .taken))
+returns c = (returned-short 4 _ _ (omega (arith, c .if1 .taken)), answered-short 4 _ _ (omega (arith, c .if1 .taken)))
 
 ask-requires : tie.Need-ask-requires
 ask-requires c κs = search needs

@@ -1,3 +1,6 @@
+-- The code's test is that of the NaN bits: without the sign they are above infinity's.
+use Prim.Native.Nat.{_%_}
+use native.Mathlib.Omega.{arith}
 use borrow.Author.Tests.{lt-ltb, le-ltb}
 use lib.Ieee.{binary32}
 use lib.Ieee.Bits.{nanBits-above}
@@ -5,19 +8,16 @@ use Rattle.asking.specs.Scalars.{floatOf}
 use Rattle.asking.proofs.scalars.float_of.Statement.{statement}
 use Rattle.asking.proofs.scalars.float_of.Tie as tie
 
--- src/scalars.rt:94:23
 float-from-bits-t5 : tie.Need-float-from-bits-t5
-float-from-bits-t5 c = rw (nanBits-above binary32 (c .before .args .x), le-ltb _ _ (c .if1 .left)) tt
+float-from-bits-t5 c = rw (nanBits-above binary32 (c .before .args .x), le-ltb 2139095040 (c .before .args .x % 2147483648) (omega arith)) tt
 
--- src/scalars.rt:88:1
 returns : tie.Need-returns
 unfolding floatOf
-returns c = rw (nanBits-above binary32 (c .before .args .x), lt-ltb _ _ (c .if1 .taken))
+returns c = rw (nanBits-above binary32 (c .before .args .x), lt-ltb 2139095040 (c .before .args .x % 2147483648) (omega arith))
 
--- src/scalars.rt:88:1
 returns-2 : tie.Need-returns-2
 unfolding floatOf
-returns-2 c = rw (nanBits-above binary32 (c .before .args .x), le-ltb _ _ (c .if1 .left))
+returns-2 c = rw (nanBits-above binary32 (c .before .args .x), le-ltb 2139095040 (c .before .args .x % 2147483648) (omega arith))
 
 pub float-of-spec : {M : Type 1} → statement M
 float-of-spec = tie.close (tie.spec float-from-bits-t5 returns returns-2)

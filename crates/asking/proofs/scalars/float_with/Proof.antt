@@ -1,3 +1,6 @@
+-- The code's test is that of the NaN bits: without the sign they are above infinity's.
+use Prim.Native.Nat.{_%_}
+use native.Mathlib.Omega.{arith}
 use borrow.Author.Tests.{lt-ltb, le-ltb}
 use lib.Ieee.{binary32}
 use lib.Ieee.Bits.{nanBits-above}
@@ -5,19 +8,16 @@ use Rattle.asking.specs.Scalars.{withFloat}
 use Rattle.asking.proofs.scalars.float_with.Statement.{statement}
 use Rattle.asking.proofs.scalars.float_with.Tie as tie
 
--- src/scalars.rt:116:27
 float-from-bits-t6 : tie.Need-float-from-bits-t6
-float-from-bits-t6 c = rw (nanBits-above binary32 (c .before .args .bits), le-ltb _ _ (c .if1 .left)) tt
+float-from-bits-t6 c = rw (nanBits-above binary32 (c .before .args .bits), le-ltb 2139095040 (c .before .args .bits % 2147483648) (omega arith)) tt
 
--- src/scalars.rt:110:1
 returns : tie.Need-returns
 unfolding withFloat
-returns c = rw (nanBits-above binary32 (c .before .args .bits), lt-ltb _ _ (c .if1 .taken))
+returns c = rw (nanBits-above binary32 (c .before .args .bits), lt-ltb 2139095040 (c .before .args .bits % 2147483648) (omega arith))
 
--- src/scalars.rt:110:1
 returns-2 : tie.Need-returns-2
 unfolding withFloat
-returns-2 c = rw (nanBits-above binary32 (c .before .args .bits), le-ltb _ _ (c .if1 .left))
+returns-2 c = rw (nanBits-above binary32 (c .before .args .bits), le-ltb 2139095040 (c .before .args .bits % 2147483648) (omega arith))
 
 pub float-with-spec : {M : Type 1} → statement M
 float-with-spec = tie.close (tie.spec float-from-bits-t6 returns returns-2)
