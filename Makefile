@@ -1,7 +1,9 @@
-# make: prove the crates, build the programs and list a sample message. make test: the gate, from nothing, with the must-fail edits. make calls: every
-# public call with its contract. make example: the C example, built for this machine and run. make compare: a million cases of the library against the
-# independent reader in compare/.
-.PHONY: all test calls example compare
+# make: prove the crates, build the programs and list a sample message. make test: the gate, from nothing, with the must-fail edits and the bindings'
+# tests. make calls: every public call with its contract. make example: the C example, built for this machine and run. make compare: a million cases of
+# the library against the independent reader in compare/. make bench: how fast both are, side by side.
+.PHONY: all test calls bindings example compare bench
+
+PEER = cd compare && SIM0MQ_LIB_DIR=$(CURDIR)/target/native CARGO_TARGET_DIR=$(CURDIR)/target/native/compare cargo run --release --offline --quiet --features product
 
 all:
 	@rt check
@@ -13,6 +15,9 @@ test:
 calls:
 	@tools/public-calls
 
+bindings:
+	@tools/test-bindings
+
 target/native/libsim0mq.a:
 	@tools/native-library
 
@@ -21,4 +26,7 @@ example: target/native/libsim0mq.a
 	@target/native/example
 
 compare: target/native/libsim0mq.a
-	@cd compare && SIM0MQ_LIB_DIR=$(CURDIR)/target/native cargo run --release --offline --quiet --features product --bin compare -- 1 1000000
+	@$(PEER) --bin compare -- 1 1000000
+
+bench: target/native/libsim0mq.a
+	@$(PEER) --bin bench -- peer product

@@ -2,8 +2,9 @@
  * Sim0MQ typed messages (big-endian, manual version 1.5): reading, asking, blanking and writing.
  *
  * Every call is proved to end, to be safe, and to answer exactly as stated here, whatever bytes and numbers it is handed. None has a precondition but
- * C's own: a pointer stands with the number of elements behind it, and the buffers of one call do not overlap. An empty buffer has length 0, and its
- * pointer is still not null. Nothing is kept between calls, so calls may run side by side.
+ * C's own: a pointer is aligned as its type asks, stands with the number of elements behind it, and the buffers of one call do not overlap. An empty
+ * buffer has length 0, and its pointer, which is not followed, is still not null, since what is proved speaks of buffers that have a place. Nothing is
+ * kept between calls, so calls may run side by side.
  *
  * Answers are numbers in `answer`, which the caller lends. A call returns
  *
@@ -83,7 +84,8 @@ extern "C" {
  *
  * The table gets five numbers for each field: code, place of the code byte, place of the first value byte, number of value bytes, number of marks; its
  * later numbers stay.
- * Refusals: 1 to 13, and 14 where the table has fewer than five numbers for each declared field. Refused, the table is as it was.
+ * Refusals, in the order of reading: 8; the frames' (1 to 7); 14 where the table has fewer than five numbers for each declared field; the fields' (1, 5,
+ * 9 to 12); 13. Refused, the table is as it was. A table of SIM0MQ_MOST_FIELDS * SIM0MQ_ROW_NUMBERS numbers is enough for every message.
  */
 uint32_t sim0mq_read(const uint8_t *message, size_t message_len, uint32_t *table, size_t table_len, uint64_t *answer, size_t answer_len);
 
@@ -102,12 +104,13 @@ uint32_t sim0mq_judge(const uint8_t *message, size_t message_len, uint64_t *answ
  *     answer[5]    the mark's currency code; 0 where it has none
  *     answer[6]    the mark's display code; 0 where it has none
  *
- * Refusals: 1 to 13, then 16, then 17 where the field is no scalar.
+ * Refusals: 1 to 13, then 16, then 17 where the field is no scalar. Each question reads the whole message afresh.
  */
 uint32_t sim0mq_value(const uint8_t *message, size_t message_len, uint64_t k, uint64_t *answer, size_t answer_len);
 
 /*
- * Where the value bytes of field k stand in the message, for a field of any code.
+ * Where the value bytes of field k stand in the message, for a field of any code. Each question reads the whole message afresh; the table of sim0mq_read
+ * has these numbers of every field.
  *
  *     answer[2]    the place of the first value byte
  *     answer[3]    the number of value bytes
@@ -140,7 +143,8 @@ uint32_t sim0mq_blank(const uint8_t *message, size_t message_len, uint8_t *out, 
  *
  * Opening writes the header. `ids` is four encoded frames in one piece: run, sender, receiver, message type. Where `stated` is 0 the type code of the
  * declared count is 1, and else `kind`.
- * Refusals: 1, 4, 5 and 13 in the ids (places within them), 6 status, 4 count type, 7 count, 8, 14.
+ * Refusals, in this order: 1, 4, 5 and 13 in the ids (places within them), 6 status, 4 count type, 7 count, 8, 14. A 4 at place 0 is the first id's or
+ * the count type's.
  */
 uint32_t sim0mq_open(const uint8_t *ids, size_t ids_len, int64_t number, uint8_t status, uint64_t fields, uint8_t stated, uint8_t kind,
                      uint8_t *out, size_t out_len, uint64_t *answer, size_t answer_len);

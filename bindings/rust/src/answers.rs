@@ -1,0 +1,67 @@
+//! The answers of the library's calls, each as its numbers or as the refusal that they tell.
+
+use crate::raw::{self, Opening, Scalar, State};
+use crate::raw::{BLANK_NUMBERS, READ_NUMBERS, VALUE_NUMBERS, VIEW_NUMBERS, WRITER_NUMBERS};
+use crate::refusal::Refusal;
+
+/// The numbers that a call answers, where it is granted; else the refusal.
+fn answered<const N: usize>(call: impl FnOnce(&mut [u64]) -> u32) -> Result<[u64; N], Refusal> {
+    let mut answer = [0; N];
+    match call(&mut answer) {
+        0 => Ok(answer),
+        number => Err(Refusal::answered(number, answer[1])),
+    }
+}
+
+/// The state that a granted call of the writer hands back.
+fn state(answer: [u64; WRITER_NUMBERS]) -> State {
+    State { written: answer[3], declared: answer[4], added: answer[5], closed: answer[6] as u8 }
+}
+
+/// Reading: the numbers of the answer, and the table's front filled; or the refusal.
+pub(crate) fn read(message: &[u8], table: &mut [u32]) -> Result<[u64; READ_NUMBERS], Refusal> {
+    answered(|answer| raw::read(message, table, answer))
+}
+
+/// Judging: the numbers of the answer, or the refusal.
+pub(crate) fn judge(message: &[u8]) -> Result<[u64; READ_NUMBERS], Refusal> {
+    answered(|answer| raw::judge(message, answer))
+}
+
+/// The scalar of field k: the numbers of the answer, or the refusal.
+pub(crate) fn value(message: &[u8], k: u64) -> Result<[u64; VALUE_NUMBERS], Refusal> {
+    answered(|answer| raw::value(message, k, answer))
+}
+
+/// The value bytes of field k: the place of the first and how many there are, or the refusal.
+pub(crate) fn view(message: &[u8], k: u64) -> Result<(usize, usize), Refusal> {
+    let answer: [u64; VIEW_NUMBERS] = answered(|answer| raw::view(message, k, answer))?;
+    Ok((answer[2] as usize, answer[3] as usize))
+}
+
+/// Blanking: the length of the copy, which is at the front of `out`; or the refusal.
+pub(crate) fn blank(message: &[u8], out: &mut [u8]) -> Result<usize, Refusal> {
+    let answer: [u64; BLANK_NUMBERS] = answered(|answer| raw::blank(message, out, answer))?;
+    Ok(answer[2] as usize)
+}
+
+/// Opening: the state with the header written at the front of `out`, or the refusal.
+pub(crate) fn open(opening: &Opening<'_>, out: &mut [u8]) -> Result<State, Refusal> {
+    answered(|answer| raw::open(opening, out, answer)).map(state)
+}
+
+/// Adding an encoded field: the state with the field written to `out`, or the refusal.
+pub(crate) fn add(taken: State, field: &[u8], out: &mut [u8]) -> Result<State, Refusal> {
+    answered(|answer| raw::add(taken, field, out, answer)).map(state)
+}
+
+/// Adding a scalar: the state with its field written to `out`, or the refusal.
+pub(crate) fn add_scalar(taken: State, scalar: Scalar, out: &mut [u8]) -> Result<State, Refusal> {
+    answered(|answer| raw::add_scalar(taken, scalar, out, answer)).map(state)
+}
+
+/// Closing: the length of the message, or the refusal.
+pub(crate) fn close(taken: State) -> Result<usize, Refusal> {
+    let answer: [u64; WRITER_NUMBERS] = answered(|answer| raw::close(taken, answer))?;
+    Ok(answer[2] as usize)
+}

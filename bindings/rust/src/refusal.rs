@@ -1,0 +1,176 @@
+//! What a refused call answers: a number and a place.
+
+use std::error::Error;
+use std::fmt;
+
+/// Why a call was refused, as one of the seventeen numbers.
+#[derive(Clone, Copy, Debug, PartialEq, Eq, PartialOrd, Ord, Hash)]
+#[repr(u8)]
+pub enum RefusalKind {
+    /// 1: the bytes end where an item still has to come. The place is their length.
+    EndsEarly = 1,
+    /// 2: frame 0 has a byte that cannot stand there. The place is that byte.
+    WrongStart = 2,
+    /// 3: frame 0 names an edition other than `01`. The place is 8.
+    WrongEdition = 3,
+    /// 4: this header frame cannot have this type code. The place is that byte, and 0 where it is
+    /// the count type that a [`Writer`](crate::Writer) was asked for.
+    TypeCode = 4,
+    /// 5: a count is below zero. The place is its first byte.
+    NegativeCount = 5,
+    /// 6: the status is none of 1, 2 and 3. The place is that byte, and 0 in the writer.
+    Status = 6,
+    /// 7: more than 256 fields are declared, or more than the count's type can say. The place is
+    /// the first byte of the count, and 0 in the writer.
+    TooManyFields = 7,
+    /// 8: the message has more than 32,768 bytes. The place is 0.
+    TooLong = 8,
+    /// 9: no field has this code. The place is that byte.
+    FieldCode = 9,
+    /// 10: the byte of a Boolean is neither 0 nor 1. The place is that byte.
+    Boolean = 10,
+    /// 11: there is no such unit type. The place is that byte.
+    UnitType = 11,
+    /// 12: a mark's currency or display code is out of range. The place is its first byte.
+    MarkCode = 12,
+    /// 13: something follows the last item. The place is its first byte.
+    BytesLeft = 13,
+    /// 14: the lent output has not the room. The place is 0.
+    NoRoom = 14,
+    /// 15: the writer is not in a state for this call. The place is 0.
+    WriterState = 15,
+    /// 16: the message has no field of this number. The place is 0.
+    NoField = 16,
+    /// 17: the field is no scalar, or the scalar is none that can be written. The place is 0.
+    WrongKind = 17,
+}
+
+impl RefusalKind {
+    /// All seventeen, in the order of their numbers.
+    pub const ALL: [RefusalKind; 17] = [
+        RefusalKind::EndsEarly,
+        RefusalKind::WrongStart,
+        RefusalKind::WrongEdition,
+        RefusalKind::TypeCode,
+        RefusalKind::NegativeCount,
+        RefusalKind::Status,
+        RefusalKind::TooManyFields,
+        RefusalKind::TooLong,
+        RefusalKind::FieldCode,
+        RefusalKind::Boolean,
+        RefusalKind::UnitType,
+        RefusalKind::MarkCode,
+        RefusalKind::BytesLeft,
+        RefusalKind::NoRoom,
+        RefusalKind::WriterState,
+        RefusalKind::NoField,
+        RefusalKind::WrongKind,
+    ];
+
+    /// The kind with this number, or `None` where the number is not 1 to 17.
+    #[must_use]
+    pub fn of(number: u8) -> Option<RefusalKind> {
+        usize::from(number).checked_sub(1).and_then(|i| RefusalKind::ALL.get(i)).copied()
+    }
+
+    /// Its number, 1 to 17.
+    #[must_use]
+    pub const fn number(self) -> u8 {
+        self as u8
+    }
+
+    /// What it means, in a few fixed words. They hold nothing of any message.
+    #[must_use]
+    pub const fn meaning(self) -> &'static str {
+        match self {
+            RefusalKind::EndsEarly => "the bytes end too early",
+            RefusalKind::WrongStart => "not the start of a message",
+            RefusalKind::WrongEdition => "edition not 01",
+            RefusalKind::TypeCode => "type code that this frame cannot have",
+            RefusalKind::NegativeCount => "negative count",
+            RefusalKind::Status => "status not 1 to 3",
+            RefusalKind::TooManyFields => "too many fields",
+            RefusalKind::TooLong => "message above 32,768 bytes",
+            RefusalKind::FieldCode => "unknown field code",
+            RefusalKind::Boolean => "Boolean neither 0 nor 1",
+            RefusalKind::UnitType => "unknown unit type",
+            RefusalKind::MarkCode => "currency or display code out of range",
+            RefusalKind::BytesLeft => "bytes left after the last item",
+            RefusalKind::NoRoom => "output too short",
+            RefusalKind::WriterState => "call out of turn in the writer",
+            RefusalKind::NoField => "no such field",
+            RefusalKind::WrongKind => "not a scalar that can be asked or written",
+        }
+    }
+}
+
+impl fmt::Display for RefusalKind {
+    fn fmt(&self, f: &mut fmt::Formatter<'_>) -> fmt::Result {
+        f.write_str(self.meaning())
+    }
+}
+
+/// A refusal: why, and where. Nothing that was lent has changed, and no byte of the message is in
+/// it, so that it may be printed and sent on.
+///
+/// ```
+/// use sim0mq::{judge, Refusal, RefusalKind};
+///
+/// let refusal = judge(b"").unwrap_err();
+/// assert_eq!(refusal.number(), 1);
+/// assert_eq!(refusal.place(), 0);
+/// assert_eq!(refusal.kind(), RefusalKind::EndsEarly);
+/// assert_eq!(refusal.to_string(), "refused 1 at 0: the bytes end too early");
+///
+/// let status = Refusal::new(RefusalKind::Status, 64);
+/// assert_eq!(status.to_string(), "refused 6 at 64: status not 1 to 3");
+/// ```
+#[derive(Clone, Copy, Debug, PartialEq, Eq, Hash)]
+pub struct Refusal {
+    kind: RefusalKind,
+    place: usize,
+}
+
+impl Refusal {
+    /// The refusal of this kind at this place.
+    #[must_use]
+    pub const fn new(kind: RefusalKind, place: usize) -> Refusal {
+        Refusal { kind, place }
+    }
+
+    /// Its number, 1 to 17.
+    #[must_use]
+    pub const fn number(self) -> u8 {
+        self.kind.number()
+    }
+
+    /// Why the call was refused.
+    #[must_use]
+    pub const fn kind(self) -> RefusalKind {
+        self.kind
+    }
+
+    /// Where the fault is, counted in bytes from 0: in the message that was judged, or, with the
+    /// writer, in the ids or the encoded field it was handed.
+    #[must_use]
+    pub const fn place(self) -> usize {
+        self.place
+    }
+
+    /// The refusal that the library answered by this number, not 0, and this place.
+    pub(crate) fn answered(number: u32, place: u64) -> Refusal {
+        let kind = u8::try_from(number).ok().and_then(RefusalKind::of);
+        // The one other number is 255, for an answer that was lent too short; none here is.
+        let kind = kind.expect("a refusal has a number from 1 to 17");
+        // A place is at most the length of a slice that was lent.
+        Refusal { kind, place: place as usize }
+    }
+}
+
+impl fmt::Display for Refusal {
+    fn fmt(&self, f: &mut fmt::Formatter<'_>) -> fmt::Result {
+        write!(f, "refused {} at {}: {}", self.number(), self.place, self.kind)
+    }
+}
+
+impl Error for Refusal {}

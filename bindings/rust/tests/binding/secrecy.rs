@@ -1,0 +1,109 @@
+//! What `Debug` shows: kinds, places and lengths, and nothing that a message carries.
+
+use std::fmt::Debug;
+
+use sim0mq::{blanked, read, Header, Mark, Message, Value, Writer};
+
+use crate::{carrying, S};
+
+/// A payload of a text, a number and a price.
+const PAYLOAD: &[u8] =
+    b"\x09\0\0\0\x05Alice\x02\x07\x5B\xCD\x15\x1A\x65\x03\xD2\x15\x40\xA3\x88\0\0\0\0\0";
+
+/// A message of the same build as S with that payload, where all that it carries is other: ids,
+/// message number, status, text, number, mark and price.
+const OTHER: &[u8] = b"\x09\0\0\0\x05SIM01\x09\0\0\0\x09idvv-25-3\x09\0\0\0\x04mc-2\
+    \x09\0\0\0\x05mm2-5\x09\0\0\0\x06dsol-4\x03\x91\x92\x93\x94\x95\x96\x97\x98\0\x03\x01\0\x03\
+    \x09\0\0\0\x05Bobby\x02\x01\x02\x03\x04\x1A\x6A\0\x01\x02\x01\x02\x03\x04\x05\x06\x07\x08";
+
+/// Fails where the `Debug` of this tells a text, an id or a number of the message with `PAYLOAD`.
+fn keeps_silent(shown: &dyn Debug) {
+    for shown in [format!("{shown:?}"), format!("{shown:#?}")] {
+        for secret in ["Alice", "IDVV", "MC.1", "MM1", "DSOL", "123456789", "2500", "978", "124"] {
+            assert!(!shown.contains(secret), "{secret} is shown");
+        }
+    }
+}
+
+/// All that can be shown of a message.
+fn shown(message: &Message) -> String {
+    let ids = [message.run(), message.sender(), message.receiver(), message.message_type()];
+    let values: Vec<_> = message.fields().map(|field| field.value()).collect();
+    let (summary, fields, header) = (message.summary(), message.fields(), message.header());
+    format!("{message:?} {summary:?} {ids:?} {header:?} {fields:?} {values:?}")
+}
+
+#[test]
+fn values_and_marks_show_their_kind_alone() {
+    let mark = Mark { unit: 101, currency: 978, display: 21 };
+    let values = [
+        (Value::Byte(-99), "Byte(..)"),
+        (Value::Short(-99), "Short(..)"),
+        (Value::Int(-99), "Int(..)"),
+        (Value::Long(-99), "Long(..)"),
+        (Value::Float(0.2), "Float(..)"),
+        (Value::Double(0.2), "Double(..)"),
+        (Value::Boolean(true), "Boolean(..)"),
+        (Value::Char8(99), "Char8(..)"),
+        (Value::Char16(99), "Char16(..)"),
+        (Value::FloatUnit(0.2, mark), "FloatUnit(..)"),
+        (Value::DoubleUnit(0.2, mark), "DoubleUnit(..)"),
+        (Value::NotNumber(26), "NotNumber(..)"),
+    ];
+    for (value, shown) in values {
+        assert_eq!(format!("{value:?}"), shown);
+        assert_eq!(format!("{value:#?}"), shown);
+    }
+    assert_eq!(format!("{mark:?}"), "Mark(..)");
+}
+
+#[test]
+fn messages_show_how_they_are_built() {
+    let message = read(S).unwrap();
+    assert_eq!(format!("{message:?}"), "Message { length: 77, fields: 1, steps: 9, .. }");
+    let field = "Field { k: 0, code: 5, place: 68, first: 69, len: 8, marks: 0 }";
+    assert_eq!(format!("{:?}", message.field(0).unwrap()), field);
+    assert_eq!(format!("{:?}", message.fields()), format!("[{field}]"));
+    assert_eq!(format!("{:?}", message.sender()), "Id { code: 9, place: 24, len: 4 }");
+    let header = "Header { ids_len: 44, fields: 1, count_type: Some(1), .. }";
+    assert_eq!(format!("{:?}", message.header()), header);
+}
+
+#[test]
+fn nothing_that_a_message_carries_is_shown() {
+    let bytes = carrying(3, PAYLOAD);
+    let message = read(&bytes).unwrap();
+    keeps_silent(&message);
+    keeps_silent(message.summary());
+    keeps_silent(&message.fields());
+    keeps_silent(&message.header());
+    keeps_silent(&[message.run(), message.sender(), message.receiver(), message.message_type()]);
+    for field in &message {
+        keeps_silent(&field);
+        keeps_silent(&field.value());
+    }
+    keeps_silent(&read(&bytes[..80]));
+}
+
+#[test]
+fn messages_of_one_build_show_the_same() {
+    let bytes = carrying(3, PAYLOAD);
+    let copy = blanked(&bytes).unwrap();
+    let message = read(&bytes).unwrap();
+    assert_eq!(shown(&message), shown(&read(&copy).unwrap()));
+    assert_eq!(shown(&message), shown(&read(OTHER).unwrap()));
+}
+
+#[test]
+fn writers_show_how_far_they_are() {
+    let mut out = [0; 300];
+    let ids = &S[10..54];
+    let header = Header { ids, number: 124, status: 2, fields: 2, count_type: None };
+    let mut writer = Writer::open(&mut out, &header).unwrap();
+    writer.add(b"\x09\0\0\0\x05Alice").unwrap();
+    keeps_silent(&writer);
+    assert_eq!(format!("{writer:?}"), "Writer { written: 78, declared: 2, added: 1, room: 300 }");
+    let unfinished = writer.close().unwrap_err();
+    keeps_silent(&unfinished);
+    keeps_silent(&unfinished.refusal());
+}
