@@ -12,9 +12,10 @@ use Rattle.sim0mq.specs.Codes.{countsOf, markingOf, widthOf}
 use Rattle.sim0mq.specs.Field.{Field}
 use Rattle.sim0mq.specs.Mark.{Kind, plain, money, moneyPer, unknown, kindOf}
 use Rattle.sim0mq.proofs.Stands.{Stands}
-use Rattle.asking.specs.Scalars.{twos, floatOf, doubleOf, withFloat, withDouble, markOf, markAt, Standing, scalarOf}
-use Rattle.asking.specs.declared.scalars.Scalar.{Scalar}
-use Rattle.asking.specs.declared.scalars.Scalar.the-variants.{Byte, Short, Int, Long, Boolean, Char8, Char16}
+use Rattle.kinds.specs.Kinds.{twos, floatOf, doubleOf, withFloat, withDouble}
+use Rattle.asking.specs.Scalars.{markOf, markAt, Standing, scalarOf}
+use Rattle.kinds.specs.declared.Scalar.{Scalar}
+use Rattle.kinds.specs.declared.Scalar.the-variants.{Byte, Short, Int, Long, Boolean, Char8, Char16}
 
 module _ {s l : List ℕ} {at : ℕ} (there : Stands s at l) where
   -- a byte, a number and a mark are the same in the bytes as where they stand

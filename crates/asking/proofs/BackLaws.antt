@@ -15,11 +15,12 @@ use Rattle.sim0mq.specs.Mark.{kindOf}
 use Rattle.sim0mq.specs.Allowed.{Each, none, more, IsMark, withDisplay, withCurrency, withBoth, joined, marksAsked}
 use Rattle.sim0mq.proofs.Stands.{Stands, stands-head, stands-tail, stands-left}
 use Rattle.asking.specs.Asking.{asked}
-use Rattle.asking.specs.Scalars.{twos, floatOf, doubleOf, withFloat, withDouble, markOf, markAt}
+use Rattle.kinds.specs.Kinds.{twos, floatOf, doubleOf, withFloat, withDouble}
+use Rattle.asking.specs.Scalars.{markOf, markAt}
 use Rattle.asking.specs.Bytes.{bigBytes, bitsOf, scalarBytes, bytesOfMark, markBytes}
 use Rattle.asking.specs.Promises.{WritesBack}
-use Rattle.asking.specs.declared.scalars.Scalar.{Scalar}
-use Rattle.asking.specs.declared.scalars.Scalar.the-variants.{Float, Double, FloatUnit, DoubleUnit, NotNumber}
+use Rattle.kinds.specs.declared.Scalar.{Scalar}
+use Rattle.kinds.specs.declared.Scalar.the-variants.{Float, Double, FloatUnit, DoubleUnit, NotNumber}
 use Rattle.asking.proofs.ByteLaws.{bytes-back, big-fits, bits-back, float-back}
 use Rattle.asking.proofs.PartLaws.{asked-one}
 use Rattle.asking.proofs.ReadCases.{ReadAs, asByte, asShort, asInt, asLong, asFloat, asDouble, asBoolean, asChar8, asChar16, asFloatUnit, asDoubleUnit}

@@ -1,8 +1,6 @@
 pub mod AskLaws
 pub mod PartLaws
 pub mod FindCases
-pub mod Signed
-pub mod Nan
 pub mod ScalarCases
 pub mod StandingLaws
 pub mod ReadCases

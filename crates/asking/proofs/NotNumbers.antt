@@ -8,10 +8,11 @@ use native.Mathlib.Omega.{arith}
 use lib.Ieee.{binary32, binary64, ofBits}
 use Rattle.sim0mq.specs.Answer.{fine, big}
 use Rattle.sim0mq.specs.Field.{Field}
-use Rattle.asking.specs.Scalars.{floatOf, doubleOf, withFloat, withDouble, markAt, scalarOf}
+use Rattle.kinds.specs.Kinds.{floatOf, doubleOf, withFloat, withDouble}
+use Rattle.asking.specs.Scalars.{markAt, scalarOf}
 use Rattle.asking.specs.Promises.{HoldsNaN}
-use Rattle.asking.specs.declared.scalars.Scalar.{Scalar}
-use Rattle.asking.specs.declared.scalars.Scalar.the-variants.{Float, Double, FloatUnit, DoubleUnit, NotNumber}
+use Rattle.kinds.specs.declared.Scalar.{Scalar}
+use Rattle.kinds.specs.declared.Scalar.the-variants.{Float, Double, FloatUnit, DoubleUnit, NotNumber}
 use Rattle.asking.proofs.ReadCases.{ReadAs, asByte, asShort, asInt, asLong, asFloat, asDouble, asBoolean, asChar8, asChar16, asFloatUnit, asDoubleUnit}
 
 -- two cases of a value that are the same would make 0 and 1 the same

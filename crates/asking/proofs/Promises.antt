@@ -10,7 +10,7 @@ use Rattle.sim0mq.proofs.Stands.{stands-self}
 use Rattle.sim0mq.proofs.FieldLaws.{fieldAt, after-at, field-complete}
 use Rattle.asking.specs.Scalars.{scalarOf, value}
 use Rattle.asking.specs.Promises.{Asking-agrees-with-reading, View-is-row-k, Not-a-number-exactly, ownBytes, Value-is-its-bytes, Value-gives-back-its-bytes}
-use Rattle.asking.specs.declared.scalars.Scalar.the-variants.{NotNumber}
+use Rattle.kinds.specs.declared.Scalar.the-variants.{NotNumber}
 use Rattle.asking.proofs.AskLaws.{asked-refused, asked-nth, nth-past, nth-past-only, nth-finds, nth-row}
 use Rattle.asking.proofs.AloneLaws.{value-alone}
 use Rattle.asking.proofs.BackLaws.{part-back, value-back}

@@ -9,9 +9,10 @@ use borrow.Author.Tests.{eqb-true}
 use Rattle.sim0mq.specs.Answer.{Answer, fine, big}
 use Rattle.sim0mq.specs.Field.{Field}
 use Rattle.sim0mq.proofs.Answers.{fine-eq, not-fine}
-use Rattle.asking.specs.Scalars.{twos, floatOf, doubleOf, withFloat, withDouble, markAt, scalarOf}
-use Rattle.asking.specs.declared.scalars.Scalar.{Scalar}
-use Rattle.asking.specs.declared.scalars.Scalar.the-variants.{Byte, Short, Int, Long, Boolean, Char8, Char16}
+use Rattle.kinds.specs.Kinds.{twos, floatOf, doubleOf, withFloat, withDouble}
+use Rattle.asking.specs.Scalars.{markAt, scalarOf}
+use Rattle.kinds.specs.declared.Scalar.{Scalar}
+use Rattle.kinds.specs.declared.Scalar.the-variants.{Byte, Short, Int, Long, Boolean, Char8, Char16}
 
 -- the code, and the value that it has; of a Boolean, that it is the bit read
 pub data ReadAs (s : List ℕ) (f : Field) (v : Scalar) : Type 0 where

@@ -8,10 +8,10 @@ use borrow.Author.Tests.{ne-eqb}
 use Rattle.sim0mq.specs.Answer.{refused, byte, big}
 use Rattle.sim0mq.specs.Codes.{countsOf, markingOf, widthOf}
 use Rattle.sim0mq.specs.Field.{Field}
-use Rattle.payload.specs.Items.{numberAt}
-use Rattle.payload.proofs.FieldCases.{number-there}
-use Rattle.payload.proofs.MarkCases.{kind-money, kind-per}
-use Rattle.asking.specs.declared.scalars.Mark.{Mark}
+use Rattle.items.specs.Numbers.{numberAt}
+use Rattle.items.proofs.NumberCases.{number-there}
+use Rattle.items.proofs.MarkCases.{kind-money, kind-per}
+use Rattle.kinds.specs.declared.Mark.{Mark}
 use Rattle.asking.specs.Scalars.{markOf, markAt, Standing, scalarOf}
 
 module _ (s : List ℕ) (f : Field) (st : Standing s f) where

@@ -14,8 +14,8 @@ use Rattle.sim0mq.specs.Message.{noTable, Reading, reading}
 use Rattle.asking.specs.Asking.{asked, viewOf}
 use Rattle.asking.specs.Scalars.{scalarOf, value}
 use Rattle.asking.specs.Bytes.{scalarBytes, markBytes}
-use Rattle.asking.specs.declared.scalars.Scalar.{Scalar}
-use Rattle.asking.specs.declared.scalars.Scalar.the-variants.{NotNumber}
+use Rattle.kinds.specs.declared.Scalar.{Scalar}
+use Rattle.kinds.specs.declared.Scalar.the-variants.{NotNumber}
 
 -- Asking for field k is refused as reading is; where reading accepts, it is refused with 16 at 0 exactly past the last field, and else answered.
 pub record AsksAsItReads (s : List ℕ) (k : ℕ) : Type 0 where

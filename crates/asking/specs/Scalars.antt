@@ -1,39 +1,21 @@
 -- The values of scalar fields (01, "What reading returns"; 000, 2.1 and 2.2.1, 2.2.2, 2.2.9): codes 0 to 8, 25 and 26.
-use Prim.Native.Nat.{ℕ, suc, _+_, _-_, _^_, _≤_}
+use Prim.Native.Nat.{ℕ, _+_, _≤_}
 use mathlib.Core.Path.{_≡_}
 use mathlib.Core.Bool.{cond}
 use mathlib.Core.List.{List}
 use lib.ListN.{length}
 use lib.Dec.{ltb, eqb}
-use lib.IntN.{ℤ, pos, negsuc}
-use lib.Ieee.{binary32, binary64, nanBits, ofBits}
 use Rattle.sim0mq.specs.Answer.{Answer, fine, refused, _>>=_, byte, big}
 use Rattle.sim0mq.specs.Codes.{countsOf, markingOf, widthOf}
 use Rattle.sim0mq.specs.Field.{Field}
 use Rattle.sim0mq.specs.Mark.{Kind, plain, money, moneyPer, unknown, kindOf}
+use Rattle.kinds.specs.Kinds.{twos, floatOf, doubleOf, withFloat, withDouble}
 use Rattle.asking.specs.Asking.{asked}
-use Rattle.asking.specs.declared.scalars.Mark.{Mark}
-use Rattle.asking.specs.declared.scalars.Scalar.{Scalar}
-use Rattle.asking.specs.declared.scalars.Scalar.the-variants.{Byte, Short, Int, Long, Float, Double, Boolean, Char8, Char16, FloatUnit, DoubleUnit, NotNumber}
+use Rattle.kinds.specs.declared.Mark.{Mark}
+use Rattle.kinds.specs.declared.Scalar.{Scalar}
+use Rattle.kinds.specs.declared.Scalar.the-variants.{Byte, Short, Int, Long, Boolean, Char8, Char16}
 use Rattle.asking.specs.declared.scalars.Value.{Value}
 use Rattle.asking.specs.declared.scalars.Value.the-variants.{Is, Refused}
-
--- The signed number that n writes in w bits: below half of 2 ^ w it is n itself, else n less 2 ^ w.
-unfoldable pub twos : ℕ → ℕ → ℤ
-twos w n = cond (ltb n (2 ^ (w - 1))) (pos n) (negsuc (2 ^ w - suc n))
-
--- The float or double of some bits (IEEE 754), exactly where they are no NaN.
-unfoldable pub floatOf : ℕ → Scalar
-floatOf x = cond (nanBits binary32 x) (NotNumber 4) (Float (ofBits binary32 x))
-
-unfoldable pub doubleOf : ℕ → Scalar
-doubleOf x = cond (nanBits binary64 x) (NotNumber 5) (Double (ofBits binary64 x))
-
-unfoldable pub withFloat : ℕ → Mark → Scalar
-withFloat x m = cond (nanBits binary32 x) (NotNumber 25) (FloatUnit (ofBits binary32 x) m)
-
-unfoldable pub withDouble : ℕ → Mark → Scalar
-withDouble x m = cond (nanBits binary64 x) (NotNumber 26) (DoubleUnit (ofBits binary64 x) m)
 
 -- The mark at `at`, whose unit type is of this kind: unit type, currency and display, 0 where it has none.
 unfoldable pub markOf : List ℕ → ℕ → Kind → Mark

@@ -13,7 +13,7 @@ lengthOf a = do
   copy ← a
   fine (length copy)
 
--- An accepted payload of n fields, which lies in `out` from place `base` on.
-pub record Wipeable (s : List ℕ) (base n : ℕ) (out : List ℕ) : Type 0 where
+-- An accepted payload of n fields, for which there is room in `out` from place `base` on.
+pub record Blankable (s : List ℕ) (base n : ℕ) (out : List ℕ) : Type 0 where
   pub accepted : payload s n ≡ fine (taken (payload s n))
   pub room : base + length s ≤ length out

@@ -5,10 +5,10 @@ ghost use Prim.Native.Nat.{_+_, _≤_};
 ghost use lib.ListN.{length};
 ghost use Rattle.sim0mq.specs.Blank.{zeroed, blanked, blanking, outputAfter};
 ghost use Rattle.sim0mq.specs.Payload.{payload, moved};
-ghost use Rattle.sim0mq.specs.Table.{stored};
 ghost use Rattle.sim0mq.specs.Views.{judged as told};
 ghost use Rattle.reading.specs.Rows.{taken};
-ghost use Rattle.blanking.specs.Blanking.{Wipeable, lengthOf};
+ghost use Rattle.blanking.specs.Blanking.{Blankable, lengthOf};
+ghost use Rattle.sim0mq.specs.Table.{placed};
 use payload::fields::Fielded;
 use payload::fields::outline;
 use reading::Lent;
@@ -16,14 +16,14 @@ use reading::Reading;
 use reading::judged;
 use sim0mq::Judged;
 
-// The bytes of s at the front of `out`.
-fn copy(s: &[u8], out: &mut [u8])
-    requires { ⌜ length (now s) ≤ length (now out) ⌝ }
-    ensures { λ _. ⌜ now (out .exit) ≡ stored (now (out .entry)) (now (s .entry)) ⌝ }
+// The bytes of s in `out` from `at` on.
+fn copy(s: &[u8], out: &mut [u8], at: usize)
+    requires { ⌜ at + length (now s) ≤ length (now out) ⌝ }
+    ensures { λ _. ⌜ now (out .exit) ≡ placed (now (out .entry)) at (now (s .entry)) ⌝ }
 {
     let mut i: usize = 0;
     while i < s.len() {
-        out[i] = s[i];
+        out[at + i] = s[i];
         i += 1;
     }
 }
@@ -40,10 +40,10 @@ fn wipe(out: &mut [u8], at: usize, n: usize)
     }
 }
 
-// Zero in the value bytes of an accepted payload of n fields, which begins at place `base` of `out`.
-fn wipe_fields(s: &[u8], base: usize, n: usize, out: &mut [u8])
-    requires { ⌜ Wipeable (now s) base n (now out) ⌝ }
-    ensures { λ _. ⌜ now (out .exit) ≡ blanked (now (out .entry)) (map (moved base) (taken (payload (now (s .entry)) n))) ⌝ }
+// The copy of an accepted payload of n fields, in `out` from `base` on: of each field its code, counts and marks, and zero for its value bytes, which are not read.
+fn blank_fields(s: &[u8], base: usize, n: usize, out: &mut [u8])
+    requires { ⌜ Blankable (now s) base n (now out) ⌝ }
+    ensures { λ _. ⌜ now (out .exit) ≡ blanked (placed (now (out .entry)) base (now (s .entry))) (map (moved base) (taken (payload (now (s .entry)) n))) ⌝ }
 {
     let mut left = n;
     let mut at: usize = 0;
@@ -53,8 +53,11 @@ fn wipe_fields(s: &[u8], base: usize, n: usize, out: &mut [u8])
                 return;
             }
             Fielded::Accepted(f) => {
-                wipe(out, base + f.first, f.size);
-                at = f.first + f.size;
+                let first = f.first;
+                let size = f.size;
+                copy(&s[at..first], out, base + at);
+                wipe(out, base + first, size);
+                at = first + size;
             }
         }
         left -= 1;
@@ -74,9 +77,9 @@ pub fn blank(message: &[u8], out: &mut [u8]) -> Judged
             if out.len() < message.len() {
                 return sim0mq::refuse(14, 0);
             }
-            copy(message, out);
             let next = j.next;
-            wipe_fields(&message[next..], next, f.fields, out);
+            copy(&message[..next], out, 0);
+            blank_fields(&message[next..], next, f.fields, out);
             Judged::Accepted(message.len())
         }
     }

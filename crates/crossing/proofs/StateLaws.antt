@@ -9,7 +9,7 @@ use Rattle.sim0mq.specs.declared.Judged.the-variants.{Accepted, Refused}
 use Rattle.sim0mq.specs.declared.Refusal.{Refusal}
 use Rattle.writing.specs.declared.Writer.{Writer}
 use Rattle.crossing.specs.Numbers.{lengthNumbers, stateNumbers}
-use Rattle.crossing.proofs.ScalarLaws.{truth-number}
+use Rattle.casting.proofs.ScalarLaws.{truth-number}
 
 pub wrote-refused : (said : Judged) (w : Writer) (r : Refusal) → said ≡ Refused r
     → r .number ∷ r .place ∷ 0 ∷ w .written ∷ w .declared ∷ w .added ∷ boolByte (w .closed) ∷ [] ≡ lengthNumbers (judged said) ++ stateNumbers w

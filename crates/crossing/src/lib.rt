@@ -1,3 +1,2 @@
 // Answers as numbers, and back: what the calls for C and Rust hand over.
 pub mod numbers;
-pub mod scalars;

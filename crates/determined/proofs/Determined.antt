@@ -21,13 +21,18 @@ use Rattle.payload.proofs.fields.head.Reads as head
 use Rattle.payload.proofs.fields.size.Reads as size
 use Rattle.payload.proofs.fields.values.Reads as values
 use Rattle.payload.proofs.fields.outline.Reads as outline
-use Rattle.payload.proofs.marks.mark.Reads as mark
-use Rattle.payload.proofs.marks.marks.Reads as marks
-use Rattle.payload.proofs.marks.currency_taken.Reads as currency-taken
-use Rattle.payload.proofs.marks.display_taken.Reads as display-taken
-use Rattle.payload.proofs.numbers.wide.Reads as wide
-use Rattle.payload.proofs.numbers.number.Reads as number
-use Rattle.payload.proofs.numbers.count.Reads as count
+use Rattle.items.proofs.marks.mark.Reads as mark
+use Rattle.items.proofs.marks.marks.Reads as marks
+use Rattle.items.proofs.marks.currency_taken.Reads as currency-taken
+use Rattle.items.proofs.marks.display_taken.Reads as display-taken
+use Rattle.items.proofs.numbers.wide.Reads as wide
+use Rattle.items.proofs.numbers.number.Reads as number
+use Rattle.items.proofs.numbers.count.Reads as count
+use Rattle.tables.proofs.counts.Reads as counts
+use Rattle.tables.proofs.marking.Reads as marking
+use Rattle.tables.proofs.width.Reads as width
+use Rattle.tables.proofs.last.Reads as last
+use Rattle.tables.proofs.per.Reads as per
 use Rattle.header.proofs.header.Reads as header
 use Rattle.header.proofs.id.Reads as id
 use Rattle.reading.proofs.judged.Reads as judgement
@@ -36,28 +41,31 @@ use Rattle.reading.proofs.judge.Reads as judge
 use Rattle.asking.proofs.ask.Reads as ask
 use Rattle.asking.proofs.view.Reads as view
 use Rattle.asking.proofs.value.Reads as value
-use Rattle.asking.proofs.scalars.i8_of.Reads as i8-of
-use Rattle.asking.proofs.scalars.i16_of.Reads as i16-of
-use Rattle.asking.proofs.scalars.i32_of.Reads as i32-of
-use Rattle.asking.proofs.scalars.i64_of.Reads as i64-of
-use Rattle.asking.proofs.scalars.float_of.Reads as float-of
-use Rattle.asking.proofs.scalars.double_of.Reads as double-of
-use Rattle.asking.proofs.scalars.float_with.Reads as float-with
-use Rattle.asking.proofs.scalars.double_with.Reads as double-with
+use Rattle.kinds.proofs.i8_of.Reads as i8-of
+use Rattle.kinds.proofs.i16_of.Reads as i16-of
+use Rattle.kinds.proofs.i32_of.Reads as i32-of
+use Rattle.kinds.proofs.i64_of.Reads as i64-of
+use Rattle.kinds.proofs.float_of.Reads as float-of
+use Rattle.kinds.proofs.double_of.Reads as double-of
+use Rattle.kinds.proofs.float_with.Reads as float-with
+use Rattle.kinds.proofs.double_with.Reads as double-with
 use Rattle.blanking.proofs.blank.Reads as blank
 use Rattle.writing.proofs.Writer.open.Reads as opening
 use Rattle.writing.proofs.Writer.add.Reads as add
 use Rattle.writing.proofs.Writer.add_scalar.Reads as add-scalar
 use Rattle.writing.proofs.Writer.close.Reads as close
-use Rattle.writing.proofs.signed.bits.Reads as bits
+use Rattle.encoding.proofs.signed.bits.Reads as bits
+use Rattle.encoding.proofs.puts.put.Reads as put-text
+use Rattle.encoding.proofs.puts.put_number.Reads as put-number
+use Rattle.encoding.proofs.scalars.encode.Reads as encode
 use Rattle.crossing.proofs.numbers.read_numbers.Reads as read-numbers
 use Rattle.crossing.proofs.numbers.length_numbers.Reads as length-numbers
 use Rattle.crossing.proofs.numbers.view_numbers.Reads as view-numbers
 use Rattle.crossing.proofs.numbers.wrote_numbers.Reads as wrote-numbers
 use Rattle.crossing.proofs.numbers.writer_of.Reads as writer-of
 use Rattle.crossing.proofs.numbers.count_type.Reads as count-type
-use Rattle.crossing.proofs.scalars.value_numbers.Reads as value-numbers
-use Rattle.crossing.proofs.scalars.scalar_from.Reads as scalar-from
+use Rattle.casting.proofs.value_numbers.Reads as value-numbers
+use Rattle.casting.proofs.scalar_from.Reads as scalar-from
 use Rattle.exports.proofs.sim0mq_read.Reads as c-read
 use Rattle.exports.proofs.sim0mq_judge.Reads as c-judge
 use Rattle.exports.proofs.sim0mq_value.Reads as c-value
@@ -126,22 +134,23 @@ valued-apart (Value·Refused r) (Value·Refused q) e = ap Value·Refused (same-r
 pub sim0mq-refuse-result : Determines sim0mq-refuse.Post (λ κs z e. z)
 sim0mq-refuse-result = determined sim0mq-refuse.Post (λ κs z e. z) (λ κs. judged) (λ κs. judged-apart) _ (λ κs a z e p. p)
 
--- The calls of crate payload.
-pub payload-result : Determines payload.Post (λ κs z e. z)
-payload-result = determined payload.Post (λ κs z e. z) (λ κs. judged) (λ κs. judged-apart) _ (λ κs a z e p. p .0)
+-- The calls of crate tables.
+pub counts-result : Determines counts.Post (λ κs z e. z)
+counts-result = equated counts.Post (λ κs z e. z) _ (λ κs a z e p. p)
 
-pub head-result : Determines head.Post (λ κs z e. z)
-head-result = determined head.Post (λ κs z e. z) (λ κs. headed) (λ κs. headed-apart) _ (λ κs a z e p. p)
+pub marking-result : Determines marking.Post (λ κs z e. z)
+marking-result = equated marking.Post (λ κs z e. z) _ (λ κs a z e p. p)
 
-pub size-result : Determines size.Post (λ κs z e. z)
-size-result = determined size.Post (λ κs z e. z) (λ κs. judged) (λ κs. judged-apart) _ (λ κs a z e p. p)
+pub width-result : Determines width.Post (λ κs z e. z)
+width-result = equated width.Post (λ κs z e. z) _ (λ κs a z e p. p)
 
-pub values-result : Determines values.Post (λ κs z e. z)
-values-result = determined values.Post (λ κs z e. z) (λ κs. judged) (λ κs. judged-apart) _ (λ κs a z e p. p)
+pub last-result : Determines last.Post (λ κs z e. z)
+last-result = equated last.Post (λ κs z e. z) _ (λ κs a z e p. p)
 
-pub outline-result : Determines outline.Post (λ κs z e. z)
-outline-result = determined outline.Post (λ κs z e. z) (λ κs. fielded) (λ κs. fielded-apart) _ (λ κs a z e p. p)
+pub per-result : Determines per.Post (λ κs z e. z)
+per-result = equated per.Post (λ κs z e. z) _ (λ κs a z e p. p)
 
+-- The calls of crate items.
 pub mark-result : Determines mark.Post (λ κs z e. z)
 mark-result = determined mark.Post (λ κs z e. z) (λ κs. judged) (λ κs. judged-apart) _ (λ κs a z e p. p)
 
@@ -162,6 +171,22 @@ number-result = equated number.Post (λ κs z e. z) _ (λ κs a z e p. p .0)
 
 pub count-result : Determines count.Post (λ κs z e. z)
 count-result = determined count.Post (λ κs z e. z) (λ κs. judged) (λ κs. judged-apart) _ (λ κs a z e p. p .0)
+
+-- The calls of crate payload.
+pub payload-result : Determines payload.Post (λ κs z e. z)
+payload-result = determined payload.Post (λ κs z e. z) (λ κs. judged) (λ κs. judged-apart) _ (λ κs a z e p. p .0)
+
+pub head-result : Determines head.Post (λ κs z e. z)
+head-result = determined head.Post (λ κs z e. z) (λ κs. headed) (λ κs. headed-apart) _ (λ κs a z e p. p)
+
+pub size-result : Determines size.Post (λ κs z e. z)
+size-result = determined size.Post (λ κs z e. z) (λ κs. judged) (λ κs. judged-apart) _ (λ κs a z e p. p)
+
+pub values-result : Determines values.Post (λ κs z e. z)
+values-result = determined values.Post (λ κs z e. z) (λ κs. judged) (λ κs. judged-apart) _ (λ κs a z e p. p)
+
+pub outline-result : Determines outline.Post (λ κs z e. z)
+outline-result = determined outline.Post (λ κs z e. z) (λ κs. fielded) (λ κs. fielded-apart) _ (λ κs a z e p. p)
 
 -- The calls of crate header.
 pub header-result : Determines header.Post (λ κs z e. z)
@@ -224,6 +249,19 @@ blank-result = determined blank.Post (λ κs z e. z) (λ κs. judged) (λ κs. j
 pub blank-out : Determines blank.Post (λ κs z e. now (e .1 .0))
 blank-out = equated blank.Post (λ κs z e. now (e .1 .0)) _ (λ κs a z e p. p .1)
 
+-- The calls of crate encoding.
+pub bits-result : Determines bits.Post (λ κs z e. z)
+bits-result = equated bits.Post (λ κs z e. z) _ (λ κs a z e p. p)
+
+pub put-text-out : Determines put-text.Post (λ κs z e. now (e .1 .0))
+put-text-out = equated put-text.Post (λ κs z e. now (e .1 .0)) _ (λ κs a z e p. p)
+
+pub put-number-out : Determines put-number.Post (λ κs z e. now (e .0))
+put-number-out = equated put-number.Post (λ κs z e. now (e .0)) _ (λ κs a z e p. p)
+
+pub encode-result : Determines encode.Post (λ κs z e. z)
+encode-result = equated encode.Post (λ κs z e. z) _ (λ κs a z e p. p)
+
 -- The calls of crate writing.
 pub opening-result : Determines opening.Post (λ κs z e. z)
 opening-result = equated opening.Post (λ κs z e. z) _ (λ κs a z e p. p .0)
@@ -246,8 +284,12 @@ add-scalar-out = equated add-scalar.Post (λ κs z e. now (e .1 .1 .0)) _ (λ κ
 pub close-result : Determines close.Post (λ κs z e. z)
 close-result = equated close.Post (λ κs z e. z) _ (λ κs a z e p. p)
 
-pub bits-result : Determines bits.Post (λ κs z e. z)
-bits-result = equated bits.Post (λ κs z e. z) _ (λ κs a z e p. p)
+-- The calls of crate casting.
+pub value-numbers-result : Determines value-numbers.Post (λ κs z e. z)
+value-numbers-result = equated value-numbers.Post (λ κs z e. z) _ (λ κs a z e p. p .0)
+
+pub scalar-from-result : Determines scalar-from.Post (λ κs z e. z)
+scalar-from-result = equated scalar-from.Post (λ κs z e. z) _ (λ κs a z e p. p)
 
 -- The calls of crate crossing.
 pub read-numbers-result : Determines read-numbers.Post (λ κs z e. z)
@@ -267,12 +309,6 @@ writer-of-result = equated writer-of.Post (λ κs z e. z) _ (λ κs a z e p. p)
 
 pub count-type-result : Determines count-type.Post (λ κs z e. z)
 count-type-result = equated count-type.Post (λ κs z e. z) _ (λ κs a z e p. p)
-
-pub value-numbers-result : Determines value-numbers.Post (λ κs z e. z)
-value-numbers-result = equated value-numbers.Post (λ κs z e. z) _ (λ κs a z e p. p .0)
-
-pub scalar-from-result : Determines scalar-from.Post (λ κs z e. z)
-scalar-from-result = equated scalar-from.Post (λ κs z e. z) _ (λ κs a z e p. p)
 
 -- The calls of crate exports.
 pub c-read-result : Determines c-read.Post (λ κs z e. z)

@@ -36,3 +36,8 @@ pub answered-room : (n : ℕ) (answer answer₁ numbers told : List ℕ) → n �
     → answer₁ ≡ answerAfter n answer told
 unfolding answerAfter
 answered-room n answer answer₁ numbers told h e f = f ∙ (ap (stored answer) e ∙ given-room n answer (stored answer told) answer h)
+
+-- Numbers that are stored are those that the definition tells.
+pub told-numbers : (answer answer₁ numbers told : List ℕ) (r : ℕ) → numbers ≡ told → r ≡ getD numbers 0 0 → answer₁ ≡ stored answer numbers
+    → (r ≡ getD told 0 0) × (answer₁ ≡ stored answer told)
+told-numbers answer answer₁ numbers told r e f h = (f ∙ ap (λ (l : List ℕ). getD l 0 0) e, h ∙ ap (stored answer) e)

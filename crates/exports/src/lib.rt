@@ -10,21 +10,21 @@ ghost use Rattle.asking.specs.Scalars.{value as valueOf};
 ghost use Rattle.blanking.specs.Blanking.{lengthOf};
 ghost use Rattle.writing.specs.Writing.{asksFor, opening, afterOpening, encoded, scalar, adding, afterAdding, closing, afterClosing, bufferAfter};
 ghost use Rattle.crossing.specs.Numbers.{readNumbers, lengthNumbers, viewNumbers, writerOf, wroteNumbers, countType};
-ghost use Rattle.crossing.specs.Scalars.{valueNumbers, markFrom, scalarFrom};
+ghost use Rattle.casting.specs.Casting.{valueNumbers, markFrom, scalarFrom};
 ghost use Rattle.exports.specs.Given.{given, returned, answerAfter};
 use crate::giving::give;
+use crate::giving::give_read;
+use crate::giving::give_wrote;
 use asking::ask;
-use asking::scalars::Mark;
 use asking::value;
 use blanking::blank;
+use casting::scalar_from;
+use casting::value_numbers;
 use crossing::numbers::count_type;
 use crossing::numbers::length_numbers;
-use crossing::numbers::read_numbers;
 use crossing::numbers::view_numbers;
 use crossing::numbers::writer_of;
-use crossing::numbers::wrote_numbers;
-use crossing::scalars::scalar_from;
-use crossing::scalars::value_numbers;
+use kinds::Mark;
 use reading::judge;
 use reading::read;
 use writing::Writer;
@@ -64,10 +64,7 @@ pub extern "C" fn sim0mq_read(message: &[u8], table: &mut [u32], answer: &mut [u
         return TOO_SHORT;
     }
     let a = read(message, table);
-    let said = a.said;
-    let frames = a.frames;
-    let numbers = read_numbers(said, frames);
-    give(&numbers, answer)
+    give_read(a, answer)
 }
 
 // Judges the message as reading does, with no table; answers the same 21 numbers.
@@ -80,10 +77,7 @@ pub extern "C" fn sim0mq_judge(message: &[u8], answer: &mut [u64]) -> u32
         return TOO_SHORT;
     }
     let a = judge(message);
-    let said = a.said;
-    let frames = a.frames;
-    let numbers = read_numbers(said, frames);
-    give(&numbers, answer)
+    give_read(a, answer)
 }
 
 // The value of field k, where it is a scalar, in the 7 numbers of `valueNumbers`.
@@ -154,10 +148,7 @@ pub extern "C" fn sim0mq_open(
         count_type(stated, kind),
         out,
     );
-    let said = w.said;
-    let writer = w.writer;
-    let numbers = wrote_numbers(said, writer);
-    give(&numbers, answer)
+    give_wrote(w, answer)
 }
 
 // Adds an encoded field to the state of these numbers; answers as opening does.
@@ -179,10 +170,7 @@ pub extern "C" fn sim0mq_add(
         return TOO_SHORT;
     }
     let w = writer_of(written, declared, added, closed).add(field, out);
-    let said = w.said;
-    let writer = w.writer;
-    let numbers = wrote_numbers(said, writer);
-    give(&numbers, answer)
+    give_wrote(w, answer)
 }
 
 // Adds a scalar of this kind, these bits and this mark to the state of these numbers; answers as opening does.
@@ -214,10 +202,7 @@ pub extern "C" fn sim0mq_add_scalar(
     };
     let value = scalar_from(kind, bits, mark);
     let w = writer_of(written, declared, added, closed).add_scalar(value, out);
-    let said = w.said;
-    let writer = w.writer;
-    let numbers = wrote_numbers(said, writer);
-    give(&numbers, answer)
+    give_wrote(w, answer)
 }
 
 // Closes the message of the state of these numbers; answers as opening does.
@@ -236,8 +221,5 @@ pub extern "C" fn sim0mq_close(
         return TOO_SHORT;
     }
     let w = writer_of(written, declared, added, closed).close();
-    let said = w.said;
-    let writer = w.writer;
-    let numbers = wrote_numbers(said, writer);
-    give(&numbers, answer)
+    give_wrote(w, answer)
 }

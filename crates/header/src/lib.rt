@@ -4,11 +4,11 @@ ghost use Rattle.sim0mq.specs.Header.{idCodes, among as amongOf, digit as digit
 ghost use Rattle.sim0mq.specs.Views.{judged};
 ghost use Rattle.payload.specs.Items.{fielded};
 ghost use Rattle.header.specs.Frames.{literalEnd, editionEnd, NoBoolean, nthFrame, counted, declaredNumber, headerRest, refusedAs, told};
+use items::numbers::number;
+use items::numbers::wide;
 use payload::fields::Field;
 use payload::fields::Fielded;
 use payload::fields::outline;
-use payload::numbers::number;
-use payload::numbers::wide;
 use sim0mq::Judged;
 use sim0mq::Refusal;
 

@@ -10,8 +10,8 @@ use crate::signed::long_of;
 use crate::signed::short_of;
 use crate::signed::signed;
 use crate::starts;
-use asking::scalars::Mark;
-use asking::scalars::Scalar;
+use kinds::Mark;
+use kinds::Scalar;
 
 // A scalar, or that the line is not understood.
 pub enum Told {

@@ -5,18 +5,15 @@ use mathlib.Core.Bool.{Bool, true, false}
 use mathlib.Core.List.{List}
 use native.Mathlib.Omega.{arith}
 use native.Mathlib.Numerals.{add-one}
-use native.Mathlib.Nat.{add-zero, mul-one, mul-zero, not-suc-le-zero, le-div-iff-mul-le, mul-le-mul, lt-of-le-of-lt}
+use native.Mathlib.Nat.{add-zero, mul-zero, not-suc-le-zero, le-div-iff-mul-le, mul-le-mul, lt-of-le-of-lt}
 use lib.ListN.{length, getD, List·getD-eq-default}
-use lib.Dec.{leb, lit<}
-use borrow.Author.Tests.{leb-true, leb-false, le-leb, lt-leb, lt-ltb, le-ltb}
-use Rattle.sim0mq.specs.Answer.{Answer, fine, refused, _>>=_, need, byte, big, notNegative}
-use Rattle.sim0mq.specs.Codes.{codeKnown, countRow, widthRow, countsOf, widthOf, boolean}
+use lib.Dec.{leb, eqb, lit<}
+use borrow.Author.Tests.{eqb-true, eqb-false, leb-true, leb-false, le-leb, lt-leb}
+use Rattle.sim0mq.specs.Answer.{Answer, fine, refused, _>>=_, need, byte}
+use Rattle.sim0mq.specs.Codes.{codeKnown, widthRow, countsOf, widthOf, boolean}
 use Rattle.sim0mq.specs.Mark.{marks}
 use Rattle.sim0mq.specs.Field.{count, counts, markCount, Head, headOf, headRest, head, booleans, booleansOf, outline}
-use Rattle.sim0mq.specs.declared.Judged.{Judged}
-use Rattle.sim0mq.specs.declared.Judged.the-variants.{Accepted, Refused}
-use Rattle.sim0mq.specs.Views.{judged}
-use Rattle.payload.specs.Items.{askedFor, Below, numberAt, sizeAt, booleansEnd, valuesEnd}
+use Rattle.payload.specs.Items.{askedFor, sizeAt, NoneAbove, booleansEnd, valuesEnd}
 use Rattle.sim0mq.proofs.Answers.{not-fine, fine-eq, needed-bind}
 use Rattle.sim0mq.proofs.Rows.{allPass, pass-at}
 
@@ -53,9 +50,6 @@ room-test n w room d e h = rw e (go (leb n (room / d)) refl)
     go true e = e ∙ sym (le-leb (n * d) room (le-div-iff-mul-le h .0 (leb-true _ _ e)))
     go false e = e ∙ sym (lt-leb (n * d) room (over (leb (n * d) room) refl e))
 
-pub room-test-one : (n w room : ℕ) → w ≡ 1 → leb n room ≡ leb (n * w) room
-room-test-one n w room e = rw (e, mul-one n)
-
 -- Booleans from a place on: none left, one more, or a refusal
 module _ (s : List ℕ) where
   pub booleans-done : (n at : ℕ) → n ≡ 0 → booleansEnd s n at ≡ fine at
@@ -72,43 +66,35 @@ module _ (s : List ℕ) where
   booleans-stop zero at h k = absurd (not-suc-le-zero h)
   booleans-stop (suc n) at h k = simp (lt-leb (byte s at) 1 k)
 
--- numbers
-module _ (s : List ℕ) (at n : ℕ) where
-  pub number-there : at + n ≤ length s → n ≤ 8 → numberAt s at n ≡ big s at n
-  unfolding numberAt
-  number-there h k = simp (le-leb (at + n) (length s) h, le-leb n 8 k)
+  -- bytes of which none is above 1
+  all-pass : (n at : ℕ) → NoneAbove s n at 1 → booleans s n at ≡ fine tt
+  unfolding booleans
+  all-pass zero at h = refl
+  all-pass (suc n) at h =
+      let here : byte s at ≤ 1 = subst (λ (x : ℕ). byte s x ≤ 1) (add-zero at) (h 0 (omega arith)) in
+      simp (le-leb (byte s at) 1 here) (all-pass n (at + 1) (λ i l. subst (λ (x : ℕ). byte s x ≤ 1) (next at i) (h (suc i) (omega arith))))
+    where
+      next : (at i : ℕ) → at + suc i ≡ at + 1 + i
+      next at i = omega arith
 
-  pub number-short : length s < at + n → 0 ≡ numberAt s at n
-  unfolding numberAt
-  number-short h = simp (lt-leb (at + n) (length s) h)
+  pub booleans-all : (n at : ℕ) → NoneAbove s n at 1 → fine (at + n) ≡ booleansEnd s n at
+  unfolding booleansEnd
+  booleans-all n at h = simp (all-pass n at h)
 
-  pub number-long : at + n ≤ length s → 8 < n → 0 ≡ numberAt s at n
-  unfolding numberAt
-  number-long h k = simp (le-leb (at + n) (length s) h, lt-leb n 8 k)
+  -- one byte more, which is not above what the others are not above, or is the most
+  pub none-more : (n at m : ℕ) → NoneAbove s n at m → byte s (at + n) ≤ m → NoneAbove s (n + 1) at m
+  none-more n at m h l i k = go (eqb i n) refl
+    where
+      go : (b : Bool) → eqb i n ≡ b → byte s (at + i) ≤ m
+      go true e = rw (eqb-true i n e) l
+      go false e = let d = eqb-false i n e in h i (omega arith)
 
-  pub number-more : big s at n * 256 + byte s (at + n) ≡ big s at (n + 1)
-  unfolding big
-  number-more = simp (add-one n)
-
--- counts
-module _ (s : List ℕ) (at : ℕ) where
-  pub count-short : length s < at + 4 → count s at ≡ refused 1 (length s)
-  unfolding count
-  count-short h = simp (lt-leb (at + 4) (length s) h)
-
-  pub count-negative : at + 4 ≤ length s → 128 ≤ byte s at → count s at ≡ refused 5 at
-  unfolding count notNegative
-  count-negative h k = simp (le-leb (at + 4) (length s) h, le-ltb (byte s at) 128 k)
-
-  pub count-fine : (n : ℕ) → at + 4 ≤ length s → byte s at < 128 → n ≡ numberAt s at 4 → count s at ≡ fine n
-  unfolding count notNegative
-  count-fine n h k e =
-      let b : n ≡ big s at 4 = e ∙ number-there s at 4 h (omega arith) in
-      simp (le-leb (at + 4) (length s) h, lt-ltb (byte s at) 128 k) (ap fine (sym b))
+  pub none-most : (n at m b : ℕ) → NoneAbove s n at m → m ≤ b → NoneAbove s n at b
+  none-most n at m b h l i k = let z = h i k in omega arith
 
 -- every width is at least one byte
-pub width-positive : (c : ℕ) → c ≤ 32 → 1 ≤ getD widthRow c 0
-unfolding allPass
+pub width-positive : (c : ℕ) → c ≤ 32 → 1 ≤ widthOf c
+unfolding allPass widthOf
 width-positive c h = leb-true 1 _ (pass-at (λ (w : ℕ). leb 1 w) widthRow c refl (omega arith))
 
 -- sizes of values
@@ -132,14 +118,18 @@ module _ (s : List ℕ) (c n first : ℕ) where
       let z : n * getD widthRow c 0 ≡ 0 = rw w (mul-zero n) in
       size-within (omega arith) ∙ ap fine z
 
-  -- the test of the room left
-  pub size-fits : first ≤ length s → leb (n * getD widthRow c 0) (length s - first) ≡ true → sizeAt s c n first ≡ fine (n * getD widthRow c 0)
-  unfolding widthOf
-  size-fits k e = let h : n * getD widthRow c 0 ≤ length s - first = leb-true _ _ e in size-within (omega arith)
+  -- the test of the room left, for a width that is w
+  pub size-fits : (w : ℕ) → w ≡ widthOf c → first ≤ length s → leb (n * w) (length s - first) ≡ true → sizeAt s c n first ≡ fine (n * w)
+  size-fits w q k e =
+      let h : n * w ≤ length s - first = leb-true _ _ e in
+      let z : n * widthOf c ≡ n * w = ap (λ (x : ℕ). n * x) (sym q) in
+      size-within (omega arith) ∙ ap fine z
 
-  pub size-short : first ≤ length s → leb (n * getD widthRow c 0) (length s - first) ≡ false → sizeAt s c n first ≡ refused 1 (length s)
-  unfolding widthOf
-  size-short k e = let h : length s - first < n * getD widthRow c 0 = leb-false _ _ e in size-over (omega arith)
+  pub size-short : (w : ℕ) → w ≡ widthOf c → first ≤ length s → leb (n * w) (length s - first) ≡ false → sizeAt s c n first ≡ refused 1 (length s)
+  size-short w q k e =
+      let h : length s - first < n * w = leb-false _ _ e in
+      let z : n * widthOf c ≡ n * w = ap (λ (x : ℕ). n * x) (sym q) in
+      size-over (omega arith)
 
 -- values
 module _ (s : List ℕ) (c n first : ℕ) where
@@ -167,11 +157,6 @@ module _ (s : List ℕ) (c n first : ℕ) where
       let q : n * widthOf c ≡ z = fine-eq (a .1) in
       (sym q, subst (λ (x : ℕ). first + x ≤ length s) q (a .0))
 
--- a refusal has no number to be below
-pub below-refused : {k p : ℕ} (m : ℕ) (r : Judged) → judged r ≡ refused k p → Below m r
-below-refused m (Accepted n) e = absurd (not-fine (sym e))
-below-refused m (Refused r) e = tt
-
 -- heads
 module _ (s : List ℕ) where
   pub head-short : (at : ℕ) → length s ≤ at → head s at ≡ refused 1 (length s)
@@ -188,12 +173,12 @@ module _ (s : List ℕ) (at c : ℕ) (there : at < length s) (is : c ≡ byte s 
   unfolding headRest codeKnown
   head-over k = head-of ∙ simp (lt-leb c 32 k)
 
-  head-counts : c ≤ 32 → head s at ≡ (counts s (getD countRow c 0) (at + 1) >>= (λ r. fine (headOf c r)))
-  unfolding headRest codeKnown countsOf
+  head-counts : c ≤ 32 → head s at ≡ (counts s (countsOf c) (at + 1) >>= (λ r. fine (headOf c r)))
+  unfolding headRest codeKnown
   head-counts l = head-of ∙ simp (le-leb c 32 l)
 
-  -- and whose row of counts says k
-  module _ (known : c ≤ 32) (k : ℕ) (asks : k ≡ getD countRow c 0) where
+  -- and that has k counts
+  module _ (known : c ≤ 32) (k : ℕ) (asks : k ≡ countsOf c) where
     head-asks : head s at ≡ (counts s k (at + 1) >>= (λ r. fine (headOf c r)))
     head-asks = rw asks (head-counts known)
 

@@ -1,3 +1,2 @@
-pub mod MarkCases
 pub mod FieldCases
 pub mod PayloadCases

@@ -1,12 +1,7 @@
 -- What the payload's functions answer, over the definitions of the format.
-use Prim.Native.Nat.{ℕ, _+_, _*_, _<_}
-use mathlib.Core.Bool.{cond, _&&_}
+use Prim.Native.Nat.{ℕ, _+_, _*_, _<_, _≤_}
 use mathlib.Core.List.{List}
-use lib.ListN.{length}
-use lib.Dec.{leb}
-use Rattle.sim0mq.specs.declared.Judged.{Judged}
-use Rattle.sim0mq.specs.declared.Judged.the-variants.{Accepted, Refused}
-use Rattle.sim0mq.specs.Answer.{Answer, fine, refused, _>>=_, need, big}
+use Rattle.sim0mq.specs.Answer.{Answer, fine, refused, _>>=_, need, byte}
 use Rattle.sim0mq.specs.Codes.{widthOf}
 use Rattle.sim0mq.specs.Field as F
 use Rattle.sim0mq.specs.Field.{booleans, booleansOf}
@@ -33,20 +28,15 @@ fielded (Fielded·Refused r) = refused (r .number) (r .place)
 abbrev pub askedFor : ℕ → ℕ → ℕ → ℕ → Answer F.Head
 askedFor c v k p = fine (F.headOf c (record { values = v; columns = k; next = p }))
 
--- An accepted number is below m.
-abbrev pub Below : ℕ → Judged → Type 0
-Below m (Accepted n) = n < m
-Below m (Refused r) = Unit {0}
-
--- The number in the n bytes from `at` on, where they are there and no more than eight; else 0.
-unfoldable pub numberAt : List ℕ → ℕ → ℕ → ℕ
-numberAt s at n = cond (leb (at + n) (length s) && leb n 8) (big s at n) 0
-
 -- The number of bytes of n values of code c, all there from `first` on.
 unfoldable pub sizeAt : List ℕ → ℕ → ℕ → ℕ → Answer ℕ
 sizeAt s c n first = do
   there ← need s first (n * widthOf c)
   fine (n * widthOf c)
+
+-- None of the n bytes from `at` on is above m.
+abbrev pub NoneAbove : List ℕ → ℕ → ℕ → ℕ → Type 0
+NoneAbove s n at m = (i : ℕ) → i < n → byte s (at + i) ≤ m
 
 -- n Booleans from `at` on: the place after them.
 unfoldable pub booleansEnd : List ℕ → ℕ → ℕ → Answer ℕ

@@ -6,15 +6,15 @@ ghost use lib.Dec.{leb};
 ghost use Rattle.sim0mq.specs.Codes.{boolean as booleanOf};
 ghost use Rattle.sim0mq.specs.Field.{markCount, head as headOf, outline as outlineOf};
 ghost use Rattle.sim0mq.specs.Views.{judged};
-ghost use Rattle.payload.specs.Items.{headed, askedFor, fielded, sizeAt, booleansEnd, valuesEnd};
-use crate::marks::marks;
-use crate::numbers::count;
-use crate::numbers::wide;
-use crate::tables::COUNTS;
-use crate::tables::MARKS;
-use crate::tables::WIDTHS;
+ghost use Rattle.payload.specs.Items.{headed, askedFor, fielded, sizeAt, NoneAbove, booleansEnd, valuesEnd};
+use items::marks::marks;
+use items::numbers::count;
+use items::numbers::wide;
 use sim0mq::Judged;
 use sim0mq::Refusal;
+use tables::counts;
+use tables::marking;
+use tables::width;
 
 // A field's code and counts, with the values and the marks that they ask for; and the place after them.
 pub struct Asked {
@@ -71,7 +71,7 @@ fn asking(code: usize, values: usize, columns: usize, next: usize) -> Headed
     requires { ⌜ code ≤ 32 ⌝ }
     ensures { λ r. ⌜ headed r ≡ askedFor code values columns next ⌝ }
 {
-    let marked = mark_count(MARKS[code], columns);
+    let marked = mark_count(marking(code), columns);
     Headed::Accepted(Asked {
         code,
         values,
@@ -98,7 +98,7 @@ pub fn head(s: &[u8], at: usize) -> Headed
         });
     }
     let p = at + 1;
-    let k = COUNTS[code];
+    let k = counts(code);
     if k == 0 {
         return asking(code, 1, 1, p);
     }
@@ -121,18 +121,6 @@ fn fits(n: usize, w: usize, room: usize) -> bool
     requires { ⌜ 0 < w ⌝ }
     ensures { λ r. ⌜ r ≡ leb (n * w) room ⌝ }
 {
-    if w == 1 {
-        return n <= room;
-    }
-    if w == 2 {
-        return n <= room / 2;
-    }
-    if w == 4 {
-        return n <= room / 4;
-    }
-    if w == 8 {
-        return n <= room / 8;
-    }
     n <= room / w
 }
 
@@ -146,15 +134,32 @@ pub fn size(s: &[u8], code: usize, n: usize, first: usize) -> Judged
     if 32 < code {
         return Judged::Accepted(0);
     }
-    let w = WIDTHS[code];
+    let w = width(code);
     if fits(n, w, s.len() - first) {
         return Judged::Accepted(n * w);
     }
     sim0mq::refuse(1, s.len())
 }
 
-// The n Boolean bytes from `at` on: the place after them.
-fn booleans(s: &[u8], n: usize, at: usize) -> Judged
+// A number that none of the n bytes from `at` on is above. It looks at all of them, whatever they are, so that many are looked at in one step.
+fn largest(s: &[u8], n: usize, at: usize) -> u8
+    requires { ⌜ at + n ≤ length (now s) ⌝ }
+    ensures { λ r. ⌜ NoneAbove (now (s .entry)) n at r ⌝ }
+{
+    let mut most: u8 = 0;
+    let mut i: usize = 0;
+    while i < n {
+        let x = s[at + i];
+        i += 1;
+        if most < x {
+            most = x;
+        }
+    }
+    most
+}
+
+// The n Boolean bytes from `at` on, byte by byte: the place after them.
+fn each_boolean(s: &[u8], n: usize, at: usize) -> Judged
     requires { ⌜ at + n ≤ length (now s) ⌝ }
     ensures { λ r. ⌜ judged r ≡ booleansEnd (now (s .entry)) n at ⌝ }
 {
@@ -168,6 +173,17 @@ fn booleans(s: &[u8], n: usize, at: usize) -> Judged
         left -= 1;
     }
     Judged::Accepted(p)
+}
+
+// The n Boolean bytes from `at` on: the place after them.
+fn booleans(s: &[u8], n: usize, at: usize) -> Judged
+    requires { ⌜ at + n ≤ length (now s) ⌝ }
+    ensures { λ r. ⌜ judged r ≡ booleansEnd (now (s .entry)) n at ⌝ }
+{
+    if largest(s, n, at) <= 1 {
+        return Judged::Accepted(at + n);
+    }
+    each_boolean(s, n, at)
 }
 
 // Whether the values of this code are Booleans.

@@ -3,18 +3,16 @@ ghost use mathlib.Core.Path.{_≡_};
 ghost use Prim.Native.Nat.{_+_};
 ghost use lib.ListN.{length};
 ghost use Rattle.sim0mq.specs.Views.{judged};
-ghost use Rattle.payload.specs.Items.{payloadSteps, Below};
+ghost use Rattle.items.specs.Numbers.{Below};
+ghost use Rattle.payload.specs.Items.{payloadSteps};
 use crate::fields::Headed;
 use crate::fields::head;
 use crate::fields::values;
-use crate::marks::mark;
+use items::marks::mark;
 use sim0mq::Judged;
 use sim0mq::Refusal;
 
 pub mod fields;
-pub mod marks;
-pub mod numbers;
-pub mod tables;
 
 // The payload s of n fields: its steps, one for each field and each mark, and no more than its bytes.
 pub fn payload(s: &[u8], n: usize) -> Judged

@@ -15,7 +15,7 @@ use Rattle.sim0mq.proofs.FieldLaws.{fieldAt, after-at}
 use Rattle.sim0mq.proofs.PayloadLaws.{fieldsAt, payload-complete, payload-sound}
 use Rattle.asking.specs.Promises.{ownBytes}
 use Rattle.asking.proofs.BackLaws.{part-back}
-use Rattle.writing.specs.Scalars.{writable, scalarGiven}
+use Rattle.encoding.specs.Scalars.{writable, scalarGiven}
 use Rattle.writing.specs.Writing.{Given, encoded, scalar, fieldGiven}
 use Rattle.returning.specs.History.{bytesOf}
 use Rattle.returning.proofs.ScalarLaws.{scalarParts, scalar-bytes, scalar-is}

@@ -13,10 +13,10 @@ use Rattle.sim0mq.specs.Answer.{big}
 use Rattle.sim0mq.specs.Codes.{codeKnown, countsOf, markingOf, widthOf, boolean}
 use Rattle.sim0mq.specs.Allowed.{numberAfter, number, Each, none, IsMark, FieldParts, valuesAsked, marksAsked, IsField}
 use Rattle.sim0mq.proofs.Stands.{Stands, big-number}
-use Rattle.asking.specs.Scalars.{twos}
+use Rattle.kinds.specs.Kinds.{twos}
 use Rattle.asking.specs.Bytes.{bigBytes, bitsOf}
 use Rattle.returning.specs.Promises.{InWidth}
-use Rattle.writing.proofs.PlaceLaws.{big-length}
+use Rattle.encoding.proofs.PlaceLaws.{big-length}
 
 -- one byte more weighs least
 number-last : (a : ℕ) (l : List ℕ) (b : ℕ) → numberAfter a (l ++ (b ∷ [])) ≡ numberAfter a l * 256 + b

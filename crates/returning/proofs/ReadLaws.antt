@@ -18,17 +18,19 @@ use Rattle.sim0mq.proofs.Stands.{Stands, stands-to, stands-head, stands-tail, s
 use Rattle.sim0mq.proofs.MessageLaws.{cutOf, message-complete}
 use Rattle.asking.specs.Bytes.{bigBytes, bitsOf}
 use Rattle.asking.specs.Asking.{nth}
-use Rattle.asking.specs.Scalars.{twos, value}
+use Rattle.kinds.specs.Kinds.{twos}
+use Rattle.asking.specs.Scalars.{value}
 use Rattle.asking.specs.Promises.{ownBytes, valueAlone}
-use Rattle.asking.specs.declared.scalars.Scalar.{Scalar}
+use Rattle.kinds.specs.declared.Scalar.{Scalar}
 use Rattle.asking.proofs.AskLaws.{asked-nth}
 use Rattle.asking.proofs.BackLaws.{part-back}
 use Rattle.asking.proofs.Promises.{asking-agrees-with-reading, value-is-its-bytes}
-use Rattle.writing.specs.Scalars.{scalarText, writable, scalarGiven}
-use Rattle.writing.specs.Writing.{Opening, countCode, numberText, headerWith, headerText, Given, scalar, fieldGiven}
+use Rattle.encoding.specs.Scalars.{scalarText, writable, scalarGiven}
+use Rattle.encoding.specs.Placing.{numberText}
+use Rattle.writing.specs.Writing.{Opening, countCode, headerWith, headerText, Given, scalar, fieldGiven}
 use Rattle.returning.specs.History.{Point, Finished, bytesOf}
 use Rattle.returning.specs.Promises.{Held, framePlace, SaysHeader, ReadsBack}
-use Rattle.writing.proofs.PlaceLaws.{big-length}
+use Rattle.encoding.proofs.PlaceLaws.{big-length}
 use Rattle.returning.proofs.NumberLaws.{number-read, signed-back, bits-held}
 use Rattle.returning.proofs.ScalarLaws.{scalar-back}
 use Rattle.returning.proofs.JoinLaws.{flat-same, four-long}

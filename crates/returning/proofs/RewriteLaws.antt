@@ -17,11 +17,13 @@ use Rattle.sim0mq.proofs.PayloadLaws.{fields-many}
 use Rattle.sim0mq.proofs.MessageLaws.{cutOf, message-sound}
 use Rattle.asking.specs.Promises.{ownBytes}
 use Rattle.asking.proofs.BackLaws.{part-back}
-use Rattle.writing.specs.Writing.{Opening, headerText, opening, afterOpening, Given, encoded, fieldGiven, takes, fitting, adding, afterAdding, closing, placed, bufferAfter}
+use Rattle.sim0mq.specs.Table.{placed}
+use Rattle.writing.specs.Writing.{Opening, headerText, opening, afterOpening, Given, encoded, fieldGiven, takes, fitting, adding, afterAdding, closing, bufferAfter}
 use Rattle.returning.specs.History.{Point, start, adds, closes, givenAfter, next, afterCalls}
 use Rattle.returning.specs.Promises.{framePlace, ownOpening, ownFields, rewritten, Rewrites, Rewriting-gives-the-same}
 use Rattle.writing.specs.declared.Writer.{Writer}
-use Rattle.writing.proofs.PlaceLaws.{placed-length, placed-on, front-stands}
+use Rattle.sim0mq.proofs.PlaceLaws.{placed-length, placed-on}
+use Rattle.encoding.proofs.PlaceLaws.{front-stands}
 use Rattle.returning.proofs.JoinLaws.{flat-append, four-long}
 use Rattle.returning.proofs.GivenLaws.{encoded-taken, own-fields}
 use Rattle.returning.proofs.RewriteOpen.{idsOf, own-header, own-opening}

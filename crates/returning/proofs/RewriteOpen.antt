@@ -18,10 +18,11 @@ use Rattle.sim0mq.specs.Allowed.{number, none, more, FieldParts, fieldBytes, Is
 use Rattle.sim0mq.proofs.Rows.{allPass, pass-among, status-scalar, count-scalar}
 use Rattle.sim0mq.proofs.Stands.{Stands, stands-head, stands-tail, stands-self, big-number}
 use Rattle.asking.specs.Bytes.{bigBytes, bitsOf}
-use Rattle.asking.specs.Scalars.{twos}
+use Rattle.kinds.specs.Kinds.{twos}
 use Rattle.asking.proofs.ByteLaws.{bytes-back, big-fits, bits-back}
 use Rattle.asking.proofs.BackLaws.{part-back, one-byte}
-use Rattle.writing.specs.Writing.{Opening, asksFor, countCode, holds, numberText, headerWith, headerText, idsFrom, fitting, opening}
+use Rattle.encoding.specs.Placing.{numberText}
+use Rattle.writing.specs.Writing.{Opening, asksFor, countCode, holds, headerWith, headerText, idsFrom, fitting, opening}
 use Rattle.writing.specs.declared.CountType.the-variants.{Stated}
 use Rattle.returning.proofs.FrameLaws.{oneNumber, frame-text}
 use Rattle.returning.proofs.IdLaws.{ids-complete}

@@ -19,15 +19,16 @@ use Rattle.sim0mq.proofs.Answers.{and-true}
 use Rattle.sim0mq.proofs.Stands.{Stands, stands-self, stands-head, stands-tail, stands-left, stands-right, big-number}
 use Rattle.sim0mq.proofs.HeaderLaws.{values-there}
 use Rattle.sim0mq.proofs.FieldLaws.{fieldAt, field-complete}
-use Rattle.asking.specs.Scalars.{twos, floatOf, doubleOf, withFloat, withDouble, markOf, markAt, scalarOf}
+use Rattle.kinds.specs.Kinds.{twos, floatOf, doubleOf, withFloat, withDouble}
+use Rattle.asking.specs.Scalars.{markOf, markAt, scalarOf}
 use Rattle.asking.specs.Bytes.{bigBytes, bitsOf, scalarBytes, bytesOfMark, markBytes}
 use Rattle.asking.specs.Promises.{valueAlone}
-use Rattle.asking.specs.declared.scalars.Mark.{Mark}
-use Rattle.asking.specs.declared.scalars.Scalar.{Scalar}
-use Rattle.asking.specs.declared.scalars.Scalar.the-variants.{Byte, Short, Int, Long, Float, Double, Boolean, Char8, Char16, FloatUnit, DoubleUnit, NotNumber}
-use Rattle.writing.specs.Scalars.{codeOf, scalarText, markTaken, writable}
+use Rattle.kinds.specs.declared.Mark.{Mark}
+use Rattle.kinds.specs.declared.Scalar.{Scalar}
+use Rattle.kinds.specs.declared.Scalar.the-variants.{Byte, Short, Int, Long, Float, Double, Boolean, Char8, Char16, FloatUnit, DoubleUnit, NotNumber}
+use Rattle.encoding.specs.Scalars.{codeOf, scalarText, markTaken, writable}
 use Rattle.returning.specs.Promises.{InWidth, Held}
-use Rattle.writing.proofs.PlaceLaws.{big-length}
+use Rattle.encoding.proofs.PlaceLaws.{big-length}
 use Rattle.returning.proofs.NumberLaws.{number-read, number-back, signed-back, bits-held, markedParts, marked-is, number-is}
 
 -- the strings of a scalar's marks: one or none

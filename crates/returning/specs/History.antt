@@ -6,7 +6,7 @@ use mathlib.Core.Bool.{true}
 use mathlib.Core.List.{List, [], _∷_, _++_}
 use lib.ListN.{length, take}
 use Rattle.sim0mq.specs.Answer.{Answer, fine, refused}
-use Rattle.writing.specs.Scalars.{scalarText}
+use Rattle.encoding.specs.Scalars.{scalarText}
 use Rattle.writing.specs.Writing.{Opening, opening, afterOpening, Given, encoded, scalar, adding, afterAdding, closing, afterClosing, bufferAfter}
 use Rattle.writing.specs.declared.Writer.{Writer}
 

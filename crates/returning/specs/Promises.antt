@@ -15,9 +15,10 @@ use Rattle.sim0mq.specs.Field.{Field}
 use Rattle.sim0mq.specs.Header.{Frame}
 use Rattle.sim0mq.specs.Message.{noTable, Reading, reading}
 use Rattle.asking.specs.Promises.{ownBytes}
-use Rattle.asking.specs.Scalars.{twos, value}
-use Rattle.asking.specs.declared.scalars.Scalar.{Scalar}
-use Rattle.asking.specs.declared.scalars.Scalar.the-variants.{Byte, Short, Int, Long, Float, Double, Boolean, Char8, Char16, FloatUnit, DoubleUnit, NotNumber}
+use Rattle.kinds.specs.Kinds.{twos}
+use Rattle.asking.specs.Scalars.{value}
+use Rattle.kinds.specs.declared.Scalar.{Scalar}
+use Rattle.kinds.specs.declared.Scalar.the-variants.{Byte, Short, Int, Long, Float, Double, Boolean, Char8, Char16, FloatUnit, DoubleUnit, NotNumber}
 use Rattle.writing.specs.Writing.{Opening, countCode, headerText, opening, afterOpening, Given, encoded, scalar, adding, afterAdding, closing, afterClosing, bufferAfter}
 use Rattle.returning.specs.History.{Point, start, adds, closes, History, afterCalls, Finished, bytesOf}
 use Rattle.writing.specs.declared.CountType.the-variants.{Stated}

@@ -1,5 +1,5 @@
 // Writes the message of the manual's section 2.3.6 to standard output: a worked example of the writer.
-use asking::scalars::Scalar;
+use kinds::Scalar;
 use libc::STDERR_FILENO;
 use libc::STDOUT_FILENO;
 use sim0mq::Judged;

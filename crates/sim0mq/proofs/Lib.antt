@@ -13,3 +13,4 @@ pub mod Demand1
 pub mod BlankLaws
 pub mod BuildLaws
 pub mod Demand3
+pub mod PlaceLaws

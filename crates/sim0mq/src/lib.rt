@@ -3,10 +3,10 @@ ghost use mathlib.Core.Path.{_≡_};
 ghost use Rattle.sim0mq.specs.Answer.{refused};
 ghost use Rattle.sim0mq.specs.Views.{judged};
 
-// A refusal: its number in document 01's list, and the place of the fault.
+// A refusal: the place of the fault, and its number in document 01's list. The place stands first, where an accepted answer has its number.
 pub struct Refusal {
-    pub number: u32,
     pub place: usize,
+    pub number: u32,
 }
 
 // What a judge says: accepted, with a number that the judge explains (a count, the place after an item, the steps); or the refusal.

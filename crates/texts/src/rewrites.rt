@@ -2,14 +2,14 @@
 use crate::copies::BEFORE;
 use crate::copies::ROOM;
 use crate::copies::touched;
-use asking::scalars::Scalar;
 use asking::scalars::Value;
 use header::Frame;
+use items::numbers::number;
+use kinds::Scalar;
 use lines::part;
 use lines::signed::long_of;
 use listing::put;
 use payload::fields::Fielded;
-use payload::numbers::number;
 use reading::Reading;
 use sim0mq::Judged;
 use writing::CountType;

@@ -1,10 +1,10 @@
 // What asking answers, as text: a line with the value of a field or the refusal, then a line with the bytes of the field's view.
-use asking::scalars::Mark;
-use asking::scalars::Scalar;
 use asking::scalars::Value;
+use items::numbers::wide;
+use kinds::Mark;
+use kinds::Scalar;
 use listing::number;
 use listing::put;
-use payload::numbers::wide;
 use reading::Reading;
 
 // The length of what asking `message` for field k answers, put at the front of `out`.

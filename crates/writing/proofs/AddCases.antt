@@ -12,14 +12,15 @@ use Rattle.sim0mq.specs.Message.{limit}
 use Rattle.sim0mq.proofs.Answers.{and-true}
 use Rattle.payload.specs.Items.{payloadSteps}
 use Rattle.reading.proofs.AnswerCases.{steps-refused, steps-accepted}
-use Rattle.asking.specs.declared.scalars.Scalar.{Scalar}
-use Rattle.writing.specs.Scalars.{scalarText, writable, scalarGiven}
-use Rattle.writing.specs.Writing.{Given, encoded, scalar, fieldGiven, takes, fitting, adding, closing, afterAdding, placed, bufferAfter}
-use Rattle.writing.specs.Puts.{encodedAs}
-use Rattle.writing.specs.declared.scalars.Encoded.{Encoded}
+use Rattle.kinds.specs.declared.Scalar.{Scalar}
+use Rattle.encoding.specs.Scalars.{scalarText, writable, scalarGiven}
+use Rattle.sim0mq.specs.Table.{placed}
+use Rattle.writing.specs.Writing.{Given, encoded, scalar, fieldGiven, takes, fitting, adding, closing, afterAdding, bufferAfter}
+use Rattle.encoding.specs.Encoded.{encodedAs}
+use Rattle.encoding.specs.declared.scalars.Encoded.{Encoded}
 use Rattle.writing.specs.declared.Writer.{Writer}
 use Rattle.writing.specs.declared.Wrote.{Wrote}
-use Rattle.writing.proofs.PlaceLaws.{front-stands}
+use Rattle.encoding.proofs.PlaceLaws.{front-stands}
 
 -- a state that takes a field: as many as declared were added, closed, too much written, and whether there is room
 module _ (w : Writer) (room : ℕ) where

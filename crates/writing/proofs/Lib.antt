@@ -1,5 +1,2 @@
-pub mod PlaceLaws
 pub mod OpenCases
 pub mod AddCases
-pub mod SignedLaws
-pub mod EncodeCases

@@ -21,9 +21,12 @@ use Rattle.sim0mq.proofs.Rows.{allPass, pass-among, eight-wide}
 use Rattle.header.proofs.FrameCases.{nth-id, nth-goes}
 use Rattle.asking.specs.Bytes.{bitsOf}
 use Rattle.writing.specs.declared.Wrote.{Wrote}
-use Rattle.writing.specs.Writing.{Opening, idsFrom, countCode, holds, numberText, headerWith, headerText, fitting, opening, placed}
-use Rattle.writing.specs.Puts.{numbersJudged, openingJudged}
-use Rattle.writing.proofs.PlaceLaws.{placed-on, big-length}
+use Rattle.sim0mq.specs.Table.{placed}
+use Rattle.encoding.specs.Placing.{numberText, putIn}
+use Rattle.writing.specs.Writing.{Opening, idsFrom, countCode, holds, headerWith, headerText, fitting, opening}
+use Rattle.writing.specs.Judges.{numbersJudged, openingJudged}
+use Rattle.sim0mq.proofs.PlaceLaws.{placed-length, placed-on}
+use Rattle.encoding.proofs.PlaceLaws.{big-length, put-fits}
 
 -- the id frames from `at` on: a refused one, the next one, bytes after the last, no byte after it
 module _ (s : List ℕ) (n at : ℕ) where
@@ -134,18 +137,17 @@ module _ (ids : List ℕ) (number : ℤ) (status c fields : ℕ) where
       (length-append message (numberText 0 1 status ++ count) ∙ ap (λ (k : ℕ). length message + k) (length-append (numberText 0 1 status) count)))
       ∙ omega (arith, big-length 8 (bitsOf 64 number), big-length 1 status, big-length (widthOf c) fields)
 
-  pub header-within : (room : ℕ) → length (headerWith ids number status c fields) ≤ room → 22 + widthOf c + length ids ≤ room
-  header-within room h = omega (arith, header-length)
-
   -- the header piece by piece
   module _ (out : List ℕ) where
-    onto : (l b r t : List ℕ) (p : ℕ) → p ≡ length l → p + length b ≤ length out → r ≡ placed out 0 l → t ≡ placed r p b → t ≡ placed out 0 (l ++ b)
-    onto l b r t p e h i j = j ∙ ap (λ (o : List ℕ). placed o p b) i ∙ placed-on out 0 l b p (omega arith) h
+    onto : (l b r t : List ℕ) (p : ℕ) → p ≡ length l → p + length b ≤ length out → r ≡ placed out 0 l → t ≡ putIn r p b → t ≡ placed out 0 (l ++ b)
+    onto l b r t p e h i j =
+        let same : length r ≡ length out = ap length i ∙ placed-length out 0 l (omega arith) in
+        j ∙ put-fits r p b (omega arith) ∙ ap (λ (o : List ℕ). placed o p b) i ∙ placed-on out 0 l b p (omega arith) h
 
     pub header-placed : (a b d e g : List ℕ) (x w : ℕ) → x ≡ bitsOf 64 number → w ≡ widthOf c
-        → length (headerWith ids number status c fields) ≤ length out → a ≡ placed out 0 frame0 → b ≡ placed a 10 ids
-        → d ≡ placed b (10 + length ids) (numberText 3 8 x) → e ≡ placed d (10 + length ids + 9) (numberText 0 1 status)
-        → g ≡ placed e (10 + length ids + 11) (numberText c w fields) → g ≡ placed out 0 (headerWith ids number status c fields)
+        → length (headerWith ids number status c fields) ≤ length out → a ≡ putIn out 0 frame0 → b ≡ putIn a 10 ids
+        → d ≡ putIn b (10 + length ids) (numberText 3 8 x) → e ≡ putIn d (10 + length ids + 9) (numberText 0 1 status)
+        → g ≡ putIn e (10 + length ids + 11) (numberText c w fields) → g ≡ placed out 0 (headerWith ids number status c fields)
     unfolding headerWith
     header-placed a b d e g x w q v fits i j k l m =
         let long = header-length in
@@ -158,7 +160,8 @@ module _ (ids : List ℕ) (number : ℤ) (status c fields : ℕ) where
         let l2 = length-append frame0 ids in
         let l3 = length-append (frame0 ++ ids) message in
         let l4 = length-append (frame0 ++ ids ++ message) stat in
-        let two = onto frame0 ids a b 10 (omega arith) (omega arith) i j in
+        let one = i ∙ put-fits out 0 frame0 (omega arith) in
+        let two = onto frame0 ids a b 10 (omega arith) (omega arith) one j in
         let three = onto (frame0 ++ ids) message b d (10 + length ids) (omega arith) (omega arith) two (rw (← q) k) in
         let four = onto (frame0 ++ ids ++ message) stat d e (10 + length ids + 9) (omega arith) (omega arith) three l in
         let five = onto (frame0 ++ ids ++ message ++ stat) count e g (10 + length ids + 11) (omega arith) (omega arith) four (rw (← v) m) in

@@ -1,4 +1,2 @@
-pub mod Scalars
-pub mod Signed
 pub mod Writing
-pub mod Puts
+pub mod Judges

@@ -1,10 +1,10 @@
 -- The writer (01, "The writer"): what opening, adding and closing answer, the state that each hands back, and what it leaves in the buffer.
 use Prim.Native.Nat.{ℕ, zero, suc, _+_, _-_, _*_, _^_}
 use mathlib.Core.Bool.{Bool, true, false, not, _&&_}
-use mathlib.Core.List.{List, _∷_, _++_}
+use mathlib.Core.List.{List, _++_}
 use lib.Dec.{leb, ltb, eqb}
 use lib.IntN.{ℤ}
-use lib.ListN.{length, take, drop}
+use lib.ListN.{length}
 use Rattle.sim0mq.specs.Answer.{Answer, fine, refused, _>>=_, _>>_, guard}
 use Rattle.sim0mq.specs.Codes.{widthOf}
 use Rattle.sim0mq.specs.Field.{after}
@@ -13,9 +13,11 @@ use Rattle.sim0mq.specs.Header.{idCodes, countCodes, among, statusTaken, fields
 use Rattle.sim0mq.specs.Message.{limit}
 use Rattle.sim0mq.specs.Allowed.{frame0}
 use Rattle.sim0mq.specs.declared.Judged.the-variants.{Accepted, Refused}
-use Rattle.asking.specs.Bytes.{bigBytes, bitsOf}
-use Rattle.asking.specs.declared.scalars.Scalar.{Scalar}
-use Rattle.writing.specs.Scalars.{scalarGiven}
+use Rattle.asking.specs.Bytes.{bitsOf}
+use Rattle.kinds.specs.declared.Scalar.{Scalar}
+use Rattle.encoding.specs.Scalars.{scalarGiven}
+use Rattle.sim0mq.specs.Table.{placed}
+use Rattle.encoding.specs.Placing.{numberText}
 use Rattle.writing.specs.declared.CountType.{CountType}
 use Rattle.writing.specs.declared.CountType.the-variants.{Unstated, Stated}
 use Rattle.writing.specs.declared.Writer.{Writer}
@@ -49,10 +51,6 @@ countCode (Stated c) = c
 -- Does a number of type c, which is signed (000, 2.1), hold n?
 unfoldable pub holds : ℕ → ℕ → Bool
 holds c n = ltb n (2 ^ (8 * widthOf c - 1))
-
--- A frame or field that is one number of n bytes: its code, then the number.
-abbrev pub numberText : ℕ → ℕ → ℕ → List ℕ
-numberText c n x = c ∷ bigBytes n x
 
 -- The header: frame 0, the four ids, the message number, the status, and the declared number of fields as a number of type c (01, "The eight header
 -- frames").
@@ -129,10 +127,7 @@ afterClosing w (fine n) =
     record { said = Accepted n; writer = record { written = w .written; declared = w .declared; added = w .added; closed = true } }
 afterClosing w (refused k p) = record { said = Refused (record { number = k; place = p }); writer = w }
 
--- The buffer with a text in it from `at` on; and the buffer after a call, which on a refusal is as it was.
-unfoldable pub placed : List ℕ → ℕ → List ℕ → List ℕ
-placed out at text = take at out ++ (text ++ drop (at + length text) out)
-
+-- The buffer after a call, which on a refusal is as it was.
 abbrev pub bufferAfter : List ℕ → ℕ → Answer (List ℕ) → List ℕ
 bufferAfter out at (fine text) = placed out at text
 bufferAfter out at (refused k p) = out

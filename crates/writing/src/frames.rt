@@ -3,17 +3,18 @@ ghost use mathlib.Core.Path.{_≡_};
 ghost use Prim.Native.Nat.{_≤_};
 ghost use lib.ListN.{length};
 ghost use Rattle.sim0mq.specs.Views.{judged};
-ghost use Rattle.writing.specs.Writing.{idsFrom, countCode, headerWith, placed};
-ghost use Rattle.writing.specs.Puts.{numbersJudged, openingJudged};
+ghost use Rattle.sim0mq.specs.Table.{placed};
+ghost use Rattle.writing.specs.Writing.{idsFrom, countCode, headerWith};
+ghost use Rattle.writing.specs.Judges.{numbersJudged, openingJudged};
 use crate::CountType;
-use crate::puts::put;
-use crate::puts::put_number;
-use crate::signed::bits;
+use encoding::puts::put;
+use encoding::puts::put_number;
+use encoding::signed::bits;
 use header::id;
+use items::numbers::wide;
 use payload::fields::Fielded;
-use payload::numbers::wide;
-use payload::tables::WIDTHS;
 use sim0mq::Judged;
+use tables::width;
 
 const FRAME_0: [u8; 10] = [9, 0, 0, 0, 5, 83, 73, 77, 48, 49];
 
@@ -71,7 +72,7 @@ fn judge_numbers(n: usize, status: u8, code: u8, fields: usize, room: usize) -> 
             return sim0mq::refuse(7, 0);
         }
     }
-    let front = 22 + WIDTHS[wide(code)];
+    let front = 22 + width(wide(code));
     if 32768 - front < n {
         return sim0mq::refuse(8, 0);
     }
@@ -108,5 +109,5 @@ pub(crate) fn put_header(
     let at = 10 + ids.len();
     put_number(out, at, 3, 8, bits(number, 18446744073709551615));
     put_number(out, at + 9, 0, 1, status as u64);
-    put_number(out, at + 11, code, WIDTHS[wide(code)], fields as u64);
+    put_number(out, at + 11, code, width(wide(code)), fields as u64);
 }

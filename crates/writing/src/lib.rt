@@ -7,17 +7,14 @@ ghost use Rattle.writing.specs.Writing.{asksFor, opening, afterOpening, 
 use crate::frames::code_of;
 use crate::frames::judge_opening;
 use crate::frames::put_header;
-use crate::puts::put;
-use crate::scalars::encode;
-use asking::scalars::Scalar;
+use encoding::puts::put;
+use encoding::scalars::encode;
+use kinds::Scalar;
 use payload::payload;
 use sim0mq::Judged;
 use sim0mq::Refusal;
 
 mod frames;
-mod puts;
-mod scalars;
-pub mod signed;
 
 // The type code of the declared count: not stated, which is 1, or stated.
 pub enum CountType {

@@ -1,13 +1,15 @@
--- The message is judged whole; then it is copied, and the fields of its payload are wiped in the copy.
+-- The message is judged whole; then its header is copied, and its payload, whose values are blanked.
 use borrow.Author.Needs.{needs}
 use native.Mathlib.Omega.{arith}
+use Prim.Native.Nat.{_≤_}
 use mathlib.Core.Path.{refl, sym, ap, _∙_}
 use lib.ListN.{length}
+use lib.Seq.{length-take-le}
 use Rattle.sim0mq.specs.Blank.{outputAfter}
 use Rattle.reading.specs.declared.Judgement.{Judgement}
 use Rattle.reading.proofs.AnswerCases.{part-all, judged-refused, judged-accepted, next-within}
 use Rattle.blanking.specs.Blanking.{lengthOf}
-use Rattle.blanking.proofs.BlankCases.{blank-refused, blank-short, blank-wipeable, blank-copied}
+use Rattle.blanking.proofs.BlankCases.{blank-refused, blank-short, blank-blankable, blank-copied}
 use Rattle.blanking.proofs.blank.Statement.{statement}
 use Rattle.blanking.proofs.blank.Tie as tie
 
@@ -30,31 +32,43 @@ returns c =
     let short = blank-short _ _ (w .0) (w .1) (c .before .if1 .taken) in
     (c .refuse .ensures ∙ sym (ap lengthOf short), sym (ap (outputAfter (c .before .before .before .before .before .before .before .before .args .out .now)) short))
 
+slice-aggregate-copy : tie.Need-slice-aggregate-copy
+slice-aggregate-copy c =
+    let w = judged-accepted _ _ _ (sym (ap (λ (j : Judgement). j .said) (c .before .before .before .before .before .judged .ensures)) ∙ c .before .before .before .said2 .given .1) in
+    let next = ap (λ (j : Judgement). j .next) (c .before .before .before .before .before .judged .ensures) ∙ w .2 in
+    let within = next-within _ _ (w .0) (w .1) in
+    sym (length-take-le _ (c .before .before .before .before .before .before .before .before .args .message .now) (omega arith))
+
 copy-requires : tie.Need-copy-requires
-copy-requires c κs = search needs
+copy-requires c κs =
+    let w = judged-accepted _ _ _ (sym (ap (λ (j : Judgement). j .said) (c .before .before .before .before .before .before .judged .ensures)) ∙ c .before .before .before .before .said2 .given .1) in
+    let next = ap (λ (j : Judgement). j .next) (c .before .before .before .before .before .before .judged .ensures) ∙ w .2 in
+    let within = next-within _ _ (w .0) (w .1) in
+    let front : c .before .before .before .before .before .before .judged .result .next ≤ length (c .before .before .before .before .before .before .before .before .before .args .message .now) = omega arith in
+    omega (arith, length-take-le _ (c .before .before .before .before .before .before .before .before .before .args .message .now) front)
 
-sub-wipe-fields : tie.Need-sub-wipe-fields
-sub-wipe-fields c =
-    let w = judged-accepted _ _ _ (sym (ap (λ (j : Judgement). j .said) (c .before .before .before .before .before .before .before .before .judged .ensures)) ∙ c .before .before .before .before .before .before .said2 .given .1) in
-    let next = ap (λ (j : Judgement). j .next) (c .before .before .before .before .before .before .before .before .judged .ensures) ∙ w .2 in
+sub-blank-fields : tie.Need-sub-blank-fields
+sub-blank-fields c =
+    let w = judged-accepted _ _ _ (sym (ap (λ (j : Judgement). j .said) (c .before .before .before .before .before .before .before .before .before .judged .ensures)) ∙ c .before .before .before .before .before .before .before .said2 .given .1) in
+    let next = ap (λ (j : Judgement). j .next) (c .before .before .before .before .before .before .before .before .before .judged .ensures) ∙ w .2 in
     let within = next-within _ _ (w .0) (w .1) in
     omega arith
 
-part-wipe-fields-start : tie.Need-part-wipe-fields-start
-part-wipe-fields-start c =
-    let w = judged-accepted _ _ _ (sym (ap (λ (j : Judgement). j .said) (c .before .before .before .before .before .before .before .before .judged .ensures)) ∙ c .before .before .before .before .before .before .said2 .given .1) in
-    let next = ap (λ (j : Judgement). j .next) (c .before .before .before .before .before .before .before .before .judged .ensures) ∙ w .2 in
+part-blank-fields-start : tie.Need-part-blank-fields-start
+part-blank-fields-start c =
+    let w = judged-accepted _ _ _ (sym (ap (λ (j : Judgement). j .said) (c .before .before .before .before .before .before .before .before .before .judged .ensures)) ∙ c .before .before .before .before .before .before .before .said2 .given .1) in
+    let next = ap (λ (j : Judgement). j .next) (c .before .before .before .before .before .before .before .before .before .judged .ensures) ∙ w .2 in
     let within = next-within _ _ (w .0) (w .1) in
     omega arith
 
-part-wipe-fields-end : tie.Need-part-wipe-fields-end
-part-wipe-fields-end c = search needs
+part-blank-fields-end : tie.Need-part-blank-fields-end
+part-blank-fields-end c = search needs
 
-wipe-fields-requires : tie.Need-wipe-fields-requires
-wipe-fields-requires c κs =
-    let w = judged-accepted _ _ _ (sym (ap (λ (j : Judgement). j .said) (c .before .before .before .before .before .before .before .before .before .before .judged .ensures)) ∙ c .before .before .before .before .before .before .before .before .said2 .given .1) in
-    let next = ap (λ (j : Judgement). j .next) (c .before .before .before .before .before .before .before .before .before .before .judged .ensures) ∙ w .2 in
-    blank-wipeable _ 0 (w .0) (w .1) _ _ _ next (w .3) (part-all (c .before .before .before .before .before .before .before .before .before .before .before .before .before .args .message .now) _) _ (omega arith)
+blank-fields-requires : tie.Need-blank-fields-requires
+blank-fields-requires c κs =
+    let w = judged-accepted _ _ _ (sym (ap (λ (j : Judgement). j .said) (c .before .before .before .before .before .before .before .before .before .before .before .judged .ensures)) ∙ c .before .before .before .before .before .before .before .before .before .said2 .given .1) in
+    let next = ap (λ (j : Judgement). j .next) (c .before .before .before .before .before .before .before .before .before .before .before .judged .ensures) ∙ w .2 in
+    blank-blankable _ 0 (w .0) (w .1) _ _ _ next (w .3) (part-all (c .before .before .before .before .before .before .before .before .before .before .before .before .before .before .args .message .now) _) _ (omega arith)
 
 returns-2 : tie.Need-returns-2
 unfolding lengthOf outputAfter
@@ -68,9 +82,9 @@ same-length c = search needs
 
 returns-3 : tie.Need-returns-3
 returns-3 c =
-    let w = judged-accepted _ _ _ (sym (ap (λ (j : Judgement). j .said) (c .before .before .before .before .before .before .before .before .before .before .before .before .before .judged .ensures)) ∙ c .before .before .before .before .before .before .before .before .before .before .before .said2 .given .1) in
-    let next = ap (λ (j : Judgement). j .next) (c .before .before .before .before .before .before .before .before .before .before .before .before .before .judged .ensures) ∙ w .2 in
-    blank-copied _ _ (w .0) (w .1) _ _ _ next (w .3) (part-all (c .before .before .before .before .before .before .before .before .before .before .before .before .before .before .before .before .args .message .now) _) _ _ _ refl (omega arith) (c .before .before .before .before .before .before .before .copy .ensures) (c .before .before .wipe-fields .ensures)
+    let w = judged-accepted _ _ _ (sym (ap (λ (j : Judgement). j .said) (c .before .before .before .before .before .before .before .before .before .before .before .before .before .before .judged .ensures)) ∙ c .before .before .before .before .before .before .before .before .before .before .before .before .said2 .given .1) in
+    let next = ap (λ (j : Judgement). j .next) (c .before .before .before .before .before .before .before .before .before .before .before .before .before .before .judged .ensures) ∙ w .2 in
+    blank-copied _ _ (w .0) (w .1) _ _ _ next (w .3) (part-all (c .before .before .before .before .before .before .before .before .before .before .before .before .before .before .before .before .before .args .message .now) _) _ _ _ refl (omega arith) (c .before .before .before .before .before .before .before .copy .ensures) (c .before .before .blank-fields .ensures)
 
 pub blank-spec : {M : Type 1} → statement M
 blank-spec =
@@ -81,11 +95,12 @@ blank-spec =
     enum-known-said-2
     refuse-requires
     returns
+    slice-aggregate-copy
     copy-requires
-    sub-wipe-fields
-    part-wipe-fields-start
-    part-wipe-fields-end
-    wipe-fields-requires
+    sub-blank-fields
+    part-blank-fields-start
+    part-blank-fields-end
+    blank-fields-requires
     returns-2
     same-length
     returns-3)

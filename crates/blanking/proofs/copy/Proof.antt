@@ -1,28 +1,30 @@
--- The bytes copied so far are at the front, and the others are as they were.
+-- The bytes copied so far stand from `at` on, and the others are as they were.
 use borrow.Author.Needs.{needs}
 use native.Mathlib.Omega.{arith}
-use Prim.Native.Nat.{ℕ, _-_, _≤_}
-use mathlib.Core.Path.{_≡_, refl, sym, ap, _∙_}
-use mathlib.Core.List.{List}
+use Prim.Native.Nat.{ℕ, _+_, _-_, _≤_}
+use mathlib.Core.Path.{_≡_, refl, _∙_}
+use mathlib.Core.List.{List, append-assoc}
 use native.Mathlib.Numerals.{add-one}
-use native.Mathlib.Nat.{zero-add}
-use lib.ListN.{length, getD, set, length-set}
+use lib.ListN.{length, take, drop, length-set}
 use lib.Seq.{paste, paste-zero, paste-suc, take-all}
-use Rattle.sim0mq.specs.Table.{stored}
+use Rattle.sim0mq.specs.Table.{placed}
 use Rattle.blanking.proofs.copy.Statement.{statement}
 use Rattle.blanking.proofs.copy.Tie as tie
 
 abbrev Inv-loop : tie.InvT-loop
-Inv-loop s out₀ i₀ out i = (i ≤ length s) × (length out ≡ length out₀) × (out ≡ paste out₀ 0 s i)
+Inv-loop s out₀ at i₀ out i = (i ≤ length s) × (length out ≡ length out₀) × (out ≡ paste out₀ at s i)
 
 abbrev μ-loop : tie.MeasureT-loop
-μ-loop s out₀ i₀ out i = length s - i
+μ-loop s out₀ at i₀ out i = length s - i
 
 loop-holds : tie.Need-loop-holds Inv-loop μ-loop
-loop-holds c = (omega arith, refl, paste-zero (c .args .out .now) 0 (c .args .s .now))
+loop-holds c = (omega arith, refl, paste-zero (c .args .out .now) (c .args .at) (c .args .s .now))
 
 shared-slice-read-out : tie.Need-shared-slice-read-out Inv-loop μ-loop
 shared-slice-read-out c = search needs
+
+add-out : tie.Need-add-out Inv-loop μ-loop
+add-out c = search needs
 
 slice-write-out : tie.Need-slice-write-out Inv-loop μ-loop
 slice-write-out c = search needs
@@ -37,22 +39,24 @@ loop-again : tie.Need-loop-again Inv-loop μ-loop
 loop-again c =
     let d : List ℕ = c .before .before .before .args .out .now in
     let s : List ℕ = c .before .before .before .args .s .now in
+    let at : ℕ = c .before .before .before .args .at in
     let i : ℕ = c .before .before .loop .i in
     let inv = c .before .before .loop .inv in
     let room = c .before .before .before .pre in
-    let step = paste-suc d 0 s i 0 (omega arith) (omega arith) in
-    (omega arith, simp length-set (inv .1), rw (inv .2, add-one i) (ap (λ (k : ℕ). set (paste d 0 s i) k (getD s i 0)) (sym (zero-add i)) ∙ step))
+    let step = paste-suc d at s i 0 (omega arith) (omega arith) in
+    (omega arith, simp length-set (inv .1), rw (inv .2, add-one i) step)
 
 same-length : tie.Need-same-length Inv-loop μ-loop
 same-length c = search needs
 
 returns : tie.Need-returns Inv-loop μ-loop
-unfolding stored
+unfolding placed
 returns c =
     let d : List ℕ = c .before .before .args .out .now in
     let s : List ℕ = c .before .before .args .s .now in
+    let at : ℕ = c .before .before .args .at in
     let e : c .before .loop .i ≡ length s = omega arith in
-    c .before .loop .inv .2 ∙ rw (e, take-all (length s) s (omega arith), zero-add (length s)) refl
+    c .before .loop .inv .2 ∙ rw (e, take-all (length s) s (omega arith)) (append-assoc (take at d) s (drop (at + length s) d))
 
 pub copy-spec : {M : Type 1} → statement M
 copy-spec =
@@ -62,6 +66,7 @@ copy-spec =
     μ-loop
     loop-holds
     shared-slice-read-out
+    add-out
     slice-write-out
     add-i
     loop-less

@@ -17,14 +17,8 @@ writer-of-requires c κs = search needs
 add-requires : tie.Need-add-requires
 add-requires c κs = search needs
 
-wrote-numbers-requires : tie.Need-wrote-numbers-requires
-wrote-numbers-requires c κs = search needs
-
-slice-aggregate-give : tie.Need-slice-aggregate-give
-slice-aggregate-give c = search needs
-
-give-requires : tie.Need-give-requires
-give-requires c κs = search needs
+give-wrote-requires : tie.Need-give-wrote-requires
+give-wrote-requires c κs = search needs
 
 same-length : tie.Need-same-length
 same-length c = search needs
@@ -34,15 +28,12 @@ same-length-2 c = search needs
 
 returns-2 : tie.Need-returns-2
 returns-2 c =
-    let g = c .before .before in
-    let n = g .before .before .before in
-    let a = n .before .before .before .before in
-    let w = a .before .before in
-    let args = w .before .before .before .before .before .args in
+    let w = c .before .before .before .before .before .before .before .before in
     let room = w .before .if1 .left in
-    let is = w .writer-of .ensures in
-    let e = n .wrote-numbers .ensures .0 ∙ ap wroteNumbers (added-as _ _ is (encoded (args .field .now)) _ refl _ _ (a .add .ensures .0)) in
-    (returned-room _ _ _ _ _ room e (g .give .ensures .0), (buffer-as _ _ is (encoded (args .field .now)) _ refl (args .out .now) _ (a .add .ensures .1) ∙ given-room _ _ _ _ room, answered-room _ _ _ _ _ room e (g .give .ensures .1)))
+    let args = w .before .before .before .before .before .args in
+    let e = ap wroteNumbers (added-as _ _ (w .writer-of .ensures) (encoded (args .field .now)) _ refl _ _ (c .before .before .before .before .before .before .add .ensures .0)) in
+    let out = buffer-as _ _ (w .writer-of .ensures) (encoded (args .field .now)) _ refl (args .out .now) _ (c .before .before .before .before .before .before .add .ensures .1) in
+    (returned-room _ _ _ _ _ room e (c .before .before .give-wrote .ensures .0), (out ∙ given-room _ _ _ _ room, answered-room _ _ _ _ _ room e (c .before .before .give-wrote .ensures .1)))
 
 pub sim0mq-add-spec : {M : Type 1} → statement M
 sim0mq-add-spec =
@@ -51,9 +42,7 @@ sim0mq-add-spec =
     returns
     writer-of-requires
     add-requires
-    wrote-numbers-requires
-    slice-aggregate-give
-    give-requires
+    give-wrote-requires
     same-length
     same-length-2
     returns-2)

@@ -20,14 +20,8 @@ writer-of-requires c κs = search needs
 add-scalar-requires : tie.Need-add-scalar-requires
 add-scalar-requires c κs = search needs
 
-wrote-numbers-requires : tie.Need-wrote-numbers-requires
-wrote-numbers-requires c κs = search needs
-
-slice-aggregate-give : tie.Need-slice-aggregate-give
-slice-aggregate-give c = search needs
-
-give-requires : tie.Need-give-requires
-give-requires c κs = search needs
+give-wrote-requires : tie.Need-give-wrote-requires
+give-wrote-requires c κs = search needs
 
 same-length : tie.Need-same-length
 same-length c = search needs
@@ -37,17 +31,13 @@ same-length-2 c = search needs
 
 returns-2 : tie.Need-returns-2
 returns-2 c =
-    let g = c .before .before in
-    let n = g .before .before .before in
-    let a = n .before .before .before .before in
-    let w = a .before .before in
-    let v = w .before in
-    let args = v .before .before .before .before .args in
+    let v = c .before .before .before .before .before .before .before .before .before in
     let room = v .before .if1 .left in
-    let is = w .writer-of .ensures in
+    let is = c .before .before .before .before .before .before .before .before .writer-of .ensures in
     let same = ap scalar (v .scalar-from .ensures) in
-    let e = n .wrote-numbers .ensures .0 ∙ ap wroteNumbers (added-as _ _ is _ _ same _ _ (a .add-scalar .ensures .0)) in
-    (returned-room _ _ _ _ _ room e (g .give .ensures .0), (buffer-as _ _ is _ _ same (args .out .now) _ (a .add-scalar .ensures .1) ∙ given-room _ _ _ _ room, answered-room _ _ _ _ _ room e (g .give .ensures .1)))
+    let e = ap wroteNumbers (added-as _ _ is _ _ same _ _ (c .before .before .before .before .before .before .add-scalar .ensures .0)) in
+    let out = buffer-as _ _ is _ _ same (c .before .before .before .before .before .before .before .before .before .before .before .before .before .args .out .now) _ (c .before .before .before .before .before .before .add-scalar .ensures .1) in
+    (returned-room _ _ _ _ _ room e (c .before .before .give-wrote .ensures .0), (out ∙ given-room _ _ _ _ room, answered-room _ _ _ _ _ room e (c .before .before .give-wrote .ensures .1)))
 
 pub sim0mq-add-scalar-spec : {M : Type 1} → statement M
 sim0mq-add-scalar-spec =
@@ -57,9 +47,7 @@ sim0mq-add-scalar-spec =
     scalar-from-requires
     writer-of-requires
     add-scalar-requires
-    wrote-numbers-requires
-    slice-aggregate-give
-    give-requires
+    give-wrote-requires
     same-length
     same-length-2
     returns-2)

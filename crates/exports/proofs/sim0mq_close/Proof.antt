@@ -1,6 +1,6 @@
 -- Where there is room, the numbers are those of what `close` answers to the state that its numbers tell.
 use borrow.Author.Needs.{needs}
-use mathlib.Core.Path.{ap, _∙_}
+use mathlib.Core.Path.{ap}
 use Rattle.crossing.specs.Numbers.{wroteNumbers}
 use Rattle.exports.proofs.GivenLaws.{returned-short, answered-short, returned-room, answered-room}
 use Rattle.exports.proofs.WriterLaws.{closed-as}
@@ -16,26 +16,17 @@ writer-of-requires c κs = search needs
 close-requires : tie.Need-close-requires
 close-requires c κs = search needs
 
-wrote-numbers-requires : tie.Need-wrote-numbers-requires
-wrote-numbers-requires c κs = search needs
-
-slice-aggregate-give : tie.Need-slice-aggregate-give
-slice-aggregate-give c = search needs
-
-give-requires : tie.Need-give-requires
-give-requires c κs = search needs
+give-wrote-requires : tie.Need-give-wrote-requires
+give-wrote-requires c κs = search needs
 
 same-length : tie.Need-same-length
 same-length c = search needs
 
 returns-2 : tie.Need-returns-2
 returns-2 c =
-    let g = c .before .before in
-    let n = g .before .before .before in
-    let w = n .before .before .before in
-    let room = w .before .if1 .left in
-    let e = n .wrote-numbers .ensures .0 ∙ ap wroteNumbers (closed-as _ _ (w .writer-of .ensures) _ (n .before .before .close .ensures)) in
-    (returned-room _ _ _ _ _ room e (g .give .ensures .0), answered-room _ _ _ _ _ room e (g .give .ensures .1))
+    let room = c .before .before .before .before .before .before .if1 .left in
+    let e = ap wroteNumbers (closed-as _ _ (c .before .before .before .before .before .writer-of .ensures) _ (c .before .before .before .before .close .ensures)) in
+    (returned-room _ _ _ _ _ room e (c .before .before .give-wrote .ensures .0), answered-room _ _ _ _ _ room e (c .before .before .give-wrote .ensures .1))
 
 pub sim0mq-close-spec : {M : Type 1} → statement M
 sim0mq-close-spec =
@@ -44,8 +35,6 @@ sim0mq-close-spec =
     returns
     writer-of-requires
     close-requires
-    wrote-numbers-requires
-    slice-aggregate-give
-    give-requires
+    give-wrote-requires
     same-length
     returns-2)

@@ -18,14 +18,8 @@ count-type-requires c κs = search needs
 open-requires : tie.Need-open-requires
 open-requires c κs = search needs
 
-wrote-numbers-requires : tie.Need-wrote-numbers-requires
-wrote-numbers-requires c κs = search needs
-
-slice-aggregate-give : tie.Need-slice-aggregate-give
-slice-aggregate-give c = search needs
-
-give-requires : tie.Need-give-requires
-give-requires c κs = search needs
+give-wrote-requires : tie.Need-give-wrote-requires
+give-wrote-requires c κs = search needs
 
 same-length : tie.Need-same-length
 same-length c = search needs
@@ -35,16 +29,13 @@ same-length-2 c = search needs
 
 returns-2 : tie.Need-returns-2
 returns-2 c =
-    let g = c .before .before in
-    let n = g .before .before .before in
-    let o = n .before .before .before .before in
-    let k = o .before .before in
-    let start = k .before .before .before .before .before in
-    let room = k .before .if1 .left in
+    let start = c .before .before .before .before .before .before .before .before .before .before .before .before .before in
+    let room = c .before .before .before .before .before .before .before .before .before .if1 .left in
     let same = toZ-ofZ w64 (start .args .number) (start .fits .number) in
-    let is = k .count-type .ensures in
-    let e = n .wrote-numbers .ensures .0 ∙ ap wroteNumbers (opened-as _ _ _ _ _ _ _ same is _ _ (o .open .ensures .0)) in
-    (returned-room _ _ _ _ _ room e (g .give .ensures .0), (header-as _ _ _ _ _ _ _ same is (start .args .out .now) _ (o .open .ensures .1) ∙ given-room _ _ _ _ room, answered-room _ _ _ _ _ room e (g .give .ensures .1)))
+    let is = c .before .before .before .before .before .before .before .before .count-type .ensures in
+    let e = ap wroteNumbers (opened-as _ _ _ _ _ _ _ same is _ _ (c .before .before .before .before .before .before .open .ensures .0)) in
+    let out = header-as _ _ _ _ _ _ _ same is (start .args .out .now) _ (c .before .before .before .before .before .before .open .ensures .1) in
+    (returned-room _ _ _ _ _ room e (c .before .before .give-wrote .ensures .0), (out ∙ given-room _ _ _ _ room, answered-room _ _ _ _ _ room e (c .before .before .give-wrote .ensures .1)))
 
 pub sim0mq-open-spec : {M : Type 1} → statement M
 sim0mq-open-spec =
@@ -53,9 +44,7 @@ sim0mq-open-spec =
     returns
     count-type-requires
     open-requires
-    wrote-numbers-requires
-    slice-aggregate-give
-    give-requires
+    give-wrote-requires
     same-length
     same-length-2
     returns-2)

@@ -13,14 +13,8 @@ returns c = (returned-short 21 _ _ (omega (arith, c .if1 .taken)), (given-short 
 read-requires : tie.Need-read-requires
 read-requires c κs = search needs
 
-read-numbers-requires : tie.Need-read-numbers-requires
-read-numbers-requires c κs = search needs
-
-slice-aggregate-give : tie.Need-slice-aggregate-give
-slice-aggregate-give c = search needs
-
-give-requires : tie.Need-give-requires
-give-requires c κs = search needs
+give-read-requires : tie.Need-give-read-requires
+give-read-requires c κs = search needs
 
 same-length : tie.Need-same-length
 same-length c = search needs
@@ -30,12 +24,9 @@ same-length-2 c = search needs
 
 returns-2 : tie.Need-returns-2
 returns-2 c =
-    let g = c .before .before in
-    let n = g .before .before .before in
-    let r = n .before .before .before .before in
-    let room = r .before .before .if1 .left in
-    let e = n .read-numbers .ensures .0 ∙ ap readNumbers (r .read .ensures .0) in
-    (returned-room _ _ _ _ _ room e (g .give .ensures .0), (r .read .ensures .1 ∙ given-room _ _ _ _ room, answered-room _ _ _ _ _ room e (g .give .ensures .1)))
+    let room = c .before .before .before .before .before .before .before .before .if1 .left in
+    let e = ap readNumbers (c .before .before .before .before .before .before .read .ensures .0) in
+    (returned-room _ _ _ _ _ room e (c .before .before .give-read .ensures .0), (c .before .before .before .before .before .before .read .ensures .1 ∙ given-room _ _ _ _ room, answered-room _ _ _ _ _ room e (c .before .before .give-read .ensures .1)))
 
 pub sim0mq-read-spec : {M : Type 1} → statement M
 sim0mq-read-spec =
@@ -43,9 +34,7 @@ sim0mq-read-spec =
     (tie.spec
     returns
     read-requires
-    read-numbers-requires
-    slice-aggregate-give
-    give-requires
+    give-read-requires
     same-length
     same-length-2
     returns-2)

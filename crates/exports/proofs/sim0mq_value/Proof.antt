@@ -1,7 +1,7 @@
 -- Where there is room, the numbers are those of what `value` answers.
 use borrow.Author.Needs.{needs}
 use mathlib.Core.Path.{ap, _∙_}
-use Rattle.crossing.specs.Scalars.{valueNumbers}
+use Rattle.casting.specs.Casting.{valueNumbers}
 use Rattle.exports.proofs.GivenLaws.{returned-short, answered-short, returned-room, answered-room}
 use Rattle.exports.proofs.sim0mq_value.Statement.{statement}
 use Rattle.exports.proofs.sim0mq_value.Tie as tie

@@ -7,7 +7,7 @@ use lib.ListN.{length}
 use Rattle.sim0mq.specs.Mark.{marks}
 use Rattle.sim0mq.specs.Views.{judged}
 use Rattle.payload.specs.Items.{headed, stepsFrom, payloadSteps}
-use Rattle.payload.proofs.MarkCases.{marks-done, marks-more, marks-stop}
+use Rattle.items.proofs.MarkCases.{marks-done, marks-more, marks-stop}
 use Rattle.payload.proofs.PayloadCases.{mark-goes, head-goes, values-goes, steps-over, steps-end, steps-head-stop, steps-mark-stop, steps-values-stop, steps-more}
 use Rattle.payload.proofs.payload.Statement.{statement}
 use Rattle.payload.proofs.payload.Tie as tie

@@ -6,7 +6,8 @@ use native.Mathlib.Omega.{arith}
 use mathlib.Core.Path.{subst, sym, ap, _∙_}
 use mathlib.Core.List.{List}
 use Rattle.sim0mq.specs.declared.Judged.{Judged}
-use Rattle.payload.specs.Items.{Below, payloadSteps}
+use Rattle.items.specs.Numbers.{Below}
+use Rattle.payload.specs.Items.{payloadSteps}
 use Rattle.reading.proofs.AnswerCases.{part-all, rest-refused, rest-accepted, steps-refused, refused-within}
 use Rattle.sim0mq.specs.Views.{judged}
 use Rattle.reading.proofs.rest.Statement.{statement}

@@ -1,7 +1,10 @@
 -- The state takes a field, so what is written lies within the limit and the buffer; each return is a case of what still fits.
 use borrow.Author.Needs.{needs}
 use native.Mathlib.Omega.{arith}
-use mathlib.Core.Path.{refl}
+use Prim.Native.Nat.{_+_, _≤_}
+use mathlib.Core.Path.{refl, _∙_}
+use lib.ListN.{length}
+use Rattle.encoding.proofs.PlaceLaws.{put-fits}
 use Rattle.writing.proofs.AddCases.{told-as, takes-within, fitting-long, fitting-full, fitting-fine}
 use Rattle.writing.proofs.append.Statement.{statement}
 use Rattle.writing.proofs.append.Tie as tie
@@ -31,9 +34,7 @@ returns-2 c =
     told-as _ _ _ _ _ _ full (c .refused2 .ensures) refl
 
 put-requires : tie.Need-put-requires
-put-requires c κs =
-    let within = takes-within _ _ (c .before .before .before .before .before .pre) in
-    omega arith
+put-requires c κs = search needs
 
 add-written : tie.Need-add-written
 add-written c = search needs
@@ -50,7 +51,9 @@ returns-3 : tie.Need-returns-3
 returns-3 c =
     let within = takes-within _ _ (c .before .before .before .before .before .before .before .before .before .pre) in
     let fits = fitting-fine _ _ _ (within .1) (c .before .before .before .before .before .before .if1 .left) (c .before .before .before .before .before .if2 .left) (within .2) in
-    told-as _ _ _ _ _ _ fits refl (c .before .before .before .put .ensures)
+    let s = c .before .before .before .before .before .before .before .before .before .args in
+    let room : s .w .written + length (s .text .now) ≤ length (s .out .now) = omega arith in
+    told-as _ _ _ _ _ _ fits refl (c .before .before .before .put .ensures ∙ put-fits _ _ _ room)
 
 pub append-spec : {M : Type 1} → statement M
 append-spec =

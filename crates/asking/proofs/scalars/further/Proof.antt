@@ -7,9 +7,10 @@ use lib.Dec.{ltb}
 use Rattle.payload.specs.Items.{seen}
 use Rattle.sim0mq.specs.Answer.{fine}
 use Rattle.sim0mq.specs.Codes.{countsOf, markingOf, widthOf}
-use Rattle.asking.specs.declared.scalars.Scalar.{Scalar}
-use Rattle.asking.specs.declared.scalars.Scalar.the-variants.{Boolean, Char8, Char16}
-use Rattle.asking.specs.Scalars.{withFloat, withDouble, scalarOf}
+use Rattle.kinds.specs.declared.Scalar.{Scalar}
+use Rattle.kinds.specs.declared.Scalar.the-variants.{Boolean, Char8, Char16}
+use Rattle.kinds.specs.Kinds.{withFloat, withDouble}
+use Rattle.asking.specs.Scalars.{scalarOf}
 use Rattle.asking.proofs.ScalarCases.{told, by-code, mark-there, no-scalar}
 use Rattle.asking.proofs.scalars.further.Statement.{statement}
 use Rattle.asking.proofs.scalars.further.Tie as tie

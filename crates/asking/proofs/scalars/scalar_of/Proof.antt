@@ -8,9 +8,10 @@ use lib.IntN.{ℤ}
 use Rattle.payload.specs.Items.{seen}
 use Rattle.sim0mq.specs.Answer.{fine}
 use Rattle.sim0mq.specs.Codes.{countsOf, widthOf}
-use Rattle.asking.specs.declared.scalars.Scalar.{Scalar}
-use Rattle.asking.specs.declared.scalars.Scalar.the-variants.{Byte, Short, Int, Long}
-use Rattle.asking.specs.Scalars.{twos, floatOf, doubleOf, scalarOf}
+use Rattle.kinds.specs.declared.Scalar.{Scalar}
+use Rattle.kinds.specs.declared.Scalar.the-variants.{Byte, Short, Int, Long}
+use Rattle.kinds.specs.Kinds.{twos, floatOf, doubleOf}
+use Rattle.asking.specs.Scalars.{scalarOf}
 use Rattle.asking.proofs.ScalarCases.{told, by-code}
 use Rattle.asking.proofs.scalars.scalar_of.Statement.{statement}
 use Rattle.asking.proofs.scalars.scalar_of.Tie as tie

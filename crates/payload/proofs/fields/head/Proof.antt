@@ -1,10 +1,10 @@
 -- Each return is a case of the definition, told by the code's row of counts and by what each count says.
 use native.Mathlib.Omega.{arith}
 use borrow.Author.Needs.{needs}
-use mathlib.Core.Path.{refl, sym, ap, _∙_, subst}
+use mathlib.Core.Path.{sym, ap, _∙_, subst}
 use Rattle.sim0mq.specs.declared.Judged.{Judged}
 use Rattle.sim0mq.specs.Views.{judged}
-use Rattle.payload.specs.Items.{Below}
+use Rattle.items.specs.Numbers.{Below}
 use Rattle.payload.proofs.FieldCases.{head-short, head-over, head-none, head-stop, head-one, head-second, head-two}
 use Rattle.payload.proofs.fields.head.Statement.{statement}
 use Rattle.payload.proofs.fields.head.Tie as tie
@@ -24,17 +24,14 @@ returns-2 c = sym (head-over _ _ (c .before .wide .result) (omega arith) (c .bef
 add-p : tie.Need-add-p
 add-p c = search needs
 
-mul-k : tie.Need-mul-k
-mul-k c = search needs
-
-array-read-k : tie.Need-array-read-k
-array-read-k c = search needs
+counts-requires : tie.Need-counts-requires
+counts-requires c κs = search needs
 
 asking-requires : tie.Need-asking-requires
 asking-requires c κs = search needs
 
 returns-3 : tie.Need-returns-3
-returns-3 c = c .asking .ensures ∙ head-none _ _ (c .before .before .before .wide .result) (omega arith) (c .before .before .before .wide .ensures .0) (omega arith) _ refl (c .before .if3 .taken)
+returns-3 c = c .asking .ensures ∙ head-none _ _ (c .before .before .before .before .wide .result) (omega arith) (c .before .before .before .before .wide .ensures .0) (omega arith) _ (c .before .before .counts .ensures) (c .before .if3 .taken)
 
 count-requires : tie.Need-count-requires
 count-requires c κs = search needs
@@ -55,7 +52,7 @@ returns-4 : tie.Need-returns-4
 returns-4 c =
     let first = sym (c .before .before .before .before .before .count .ensures .0) ∙ ap judged (c .before .before .before .n .given .1) in
     c .asking2 .ensures
-    ∙ head-one _ _ (c .before .before .before .before .before .before .before .before .wide .result) (omega arith) (c .before .before .before .before .before .before .before .before .wide .ensures .0) (omega arith) _ refl _ (c .before .if4 .taken) first
+    ∙ head-one _ _ (c .before .before .before .before .before .before .before .before .before .wide .result) (omega arith) (c .before .before .before .before .before .before .before .before .before .wide .ensures .0) (omega arith) _ (c .before .before .before .before .before .before .before .counts .ensures) _ (c .before .if4 .taken) first
 
 add-count : tie.Need-add-count
 add-count c = search needs
@@ -84,14 +81,14 @@ asking-requires-3 c κs = search needs
 returns-5 : tie.Need-returns-5
 returns-5 c =
     let stopped = sym (c .before .before .before .count .ensures .0) ∙ ap judged (c .before .r .given .1) in
-    sym (head-stop _ _ (c .before .before .before .before .before .before .wide .result) (omega arith) (c .before .before .before .before .before .before .wide .ensures .0) (omega arith) _ refl _ _ (c .before .before .before .before .if3 .left) stopped)
+    sym (head-stop _ _ (c .before .before .before .before .before .before .before .wide .result) (omega arith) (c .before .before .before .before .before .before .before .wide .ensures .0) (omega arith) _ (c .before .before .before .before .before .counts .ensures) _ _ (c .before .before .before .before .if3 .left) stopped)
 
 returns-6 : tie.Need-returns-6
 returns-6 c =
     let first = sym (c .before .before .before .before .before .before .before .before .count .ensures .0) ∙ ap judged (c .before .before .before .before .before .before .n .given .1) in
     let stopped = sym (c .before .before .before .count2 .ensures .0) ∙ ap judged (c .before .r2 .given .1) in
     sym
-    (head-second _ _ (c .before .before .before .before .before .before .before .before .before .before .before .wide .result) (omega arith) (c .before .before .before .before .before .before .before .before .before .before .before .wide .ensures .0) (omega arith) _ refl _ _ _ (c .before .before .before .before .before .before .before .before .before .if3 .left) (c .before .before .before .before .if4 .left)
+    (head-second _ _ (c .before .before .before .before .before .before .before .before .before .before .before .before .wide .result) (omega arith) (c .before .before .before .before .before .before .before .before .before .before .before .before .wide .ensures .0) (omega arith) _ (c .before .before .before .before .before .before .before .before .before .before .counts .ensures) _ _ _ (c .before .before .before .before .before .before .before .before .before .if3 .left) (c .before .before .before .before .if4 .left)
     first stopped)
 
 returns-7 : tie.Need-returns-7
@@ -99,7 +96,7 @@ returns-7 c =
     let first = sym (c .before .before .before .before .before .before .before .before .before .before .count .ensures .0) ∙ ap judged (c .before .before .before .before .before .before .before .before .n .given .1) in
     let second = sym (c .before .before .before .before .before .count2 .ensures .0) ∙ ap judged (c .before .before .before .c .given .1) in
     c .asking3 .ensures
-    ∙ head-two _ _ (c .before .before .before .before .before .before .before .before .before .before .before .before .before .wide .result) (omega arith) (c .before .before .before .before .before .before .before .before .before .before .before .before .before .wide .ensures .0) (omega arith) _ refl _ _ _ (c .before .before .before .before .before .before .before .before .before .before .before .if3 .left) (c .before .before .before .before .before .before .if4 .left) first
+    ∙ head-two _ _ (c .before .before .before .before .before .before .before .before .before .before .before .before .before .before .wide .result) (omega arith) (c .before .before .before .before .before .before .before .before .before .before .before .before .before .before .wide .ensures .0) (omega arith) _ (c .before .before .before .before .before .before .before .before .before .before .before .before .counts .ensures) _ _ _ (c .before .before .before .before .before .before .before .before .before .before .before .if3 .left) (c .before .before .before .before .before .before .if4 .left) first
     second (c .before .product .ensures)
 
 pub head-spec : {M : Type 1} → statement M
@@ -111,8 +108,7 @@ head-spec =
     wide-requires
     returns-2
     add-p
-    mul-k
-    array-read-k
+    counts-requires
     asking-requires
     returns-3
     count-requires

@@ -2,7 +2,7 @@
 use native.Mathlib.Omega.{arith}
 use borrow.Author.Needs.{needs}
 use Prim.Native.Nat.{_≤_, ℕ, _<_, _^_}
-use mathlib.Core.Path.{sym, _∙_, _≡_}
+use mathlib.Core.Path.{sym, _∙_, _≡_, subst}
 use borrow.Author.Tests.{leb-true}
 use Rattle.payload.proofs.FieldCases.{width-positive, size-past, size-of-none, size-fits, size-short}
 use mathlib.Core.Bool.{true}
@@ -23,29 +23,26 @@ returns c = c .refuse .ensures ∙ sym (size-past _ _ _ _ (omega arith))
 returns-2 : tie.Need-returns-2
 returns-2 c = sym (size-of-none _ _ _ _ (c .if2 .taken) (omega arith))
 
-mul-w : tie.Need-mul-w
-mul-w c = search needs
-
-array-read-w : tie.Need-array-read-w
-array-read-w c = search needs
+width-requires : tie.Need-width-requires
+width-requires c κs = search needs
 
 sub-fits : tie.Need-sub-fits
 sub-fits c = search needs
 
 fits-requires : tie.Need-fits-requires
-fits-requires c κs = width-positive (c .before .before .before .args .code) (omega arith)
+fits-requires c κs = subst (λ (w : ℕ). 1 ≤ w) (sym (c .width .ensures)) (width-positive (c .before .before .before .before .args .code) (omega arith))
 
-mul-t14 : tie.Need-mul-t14
-mul-t14 c = record { fits = fits-in _ _ (sym (c .before .fits2 .ensures) ∙ c .if3 .taken) (omega arith) }
+mul-t11 : tie.Need-mul-t11
+mul-t11 c = record { fits = fits-in _ _ (sym (c .before .fits2 .ensures) ∙ c .if3 .taken) (omega arith) }
 
 returns-3 : tie.Need-returns-3
-returns-3 c = sym (size-fits _ _ _ _ (omega arith) (sym (c .before .fits2 .ensures) ∙ c .if3 .taken))
+returns-3 c = sym (size-fits _ _ _ _ _ (c .before .before .width .ensures) (omega arith) (sym (c .before .fits2 .ensures) ∙ c .if3 .taken))
 
 refuse-requires-2 : tie.Need-refuse-requires-2
 refuse-requires-2 c κs = search needs
 
 returns-4 : tie.Need-returns-4
-returns-4 c = c .refuse2 .ensures ∙ sym (size-short _ _ _ _ (omega arith) (sym (c .before .before .fits2 .ensures) ∙ c .before .if3 .left))
+returns-4 c = c .refuse2 .ensures ∙ sym (size-short _ _ _ _ _ (c .before .before .before .width .ensures) (omega arith) (sym (c .before .before .fits2 .ensures) ∙ c .before .if3 .left))
 
 pub size-spec : {M : Type 1} → statement M
 size-spec =
@@ -54,11 +51,10 @@ size-spec =
     refuse-requires
     returns
     returns-2
-    mul-w
-    array-read-w
+    width-requires
     sub-fits
     fits-requires
-    mul-t14
+    mul-t11
     returns-3
     refuse-requires-2
     returns-4)

@@ -1,6 +1,6 @@
 -- texts::values::double is safe: a double that does not differ from itself has bits.
 use borrow.Author.Needs.{needs}
-use Rattle.asking.proofs.Nan.{no-nan}
+use Rattle.kinds.proofs.Nan.{no-nan}
 use Rattle.texts.proofs.values.double.Statement.{statement}
 use Rattle.texts.proofs.values.double.Tie as tie
 

@@ -4,7 +4,7 @@ use native.Mathlib.Omega.{arith}
 use lib.Dec.{T}
 use lib.Ieee.{binary32, fits}
 use lib.Ieee.Bits.{toBits-lt}
-use Rattle.asking.proofs.Nan.{no-nan}
+use Rattle.kinds.proofs.Nan.{no-nan}
 use Rattle.texts.proofs.values.float.Statement.{statement}
 use Rattle.texts.proofs.values.float.Tie as tie
 

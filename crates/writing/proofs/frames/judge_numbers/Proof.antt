@@ -43,50 +43,50 @@ returns-5 c = c .refuse5 .ensures ∙ sym (numbers-above _ _ _ _ _ (omega arith)
 wide-requires : tie.Need-wide-requires
 wide-requires c κs = search needs
 
-mul-front : tie.Need-mul-front
-mul-front c = search needs
-
-array-read-front : tie.Need-array-read-front
-array-read-front c = search needs
+width-requires : tie.Need-width-requires
+width-requires c κs = search needs
 
 add-front : tie.Need-add-front
-unfolding widthOf
-add-front c = let w = eight-wide (c .wide .result) in omega arith
+add-front c =
+    let w = eight-wide (c .before .wide .result) in
+    let is = c .width .ensures in
+    omega arith
 
 sub-if7 : tie.Need-sub-if7
-unfolding widthOf
-sub-if7 c = let w = eight-wide (c .wide .result) in omega arith
+sub-if7 c =
+    let w = eight-wide (c .before .wide .result) in
+    let is = c .width .ensures in
+    omega arith
 
 refuse-requires-6 : tie.Need-refuse-requires-6
 refuse-requires-6 c κs = search needs
 
 returns-6 : tie.Need-returns-6
-unfolding widthOf
 returns-6 c =
-    let width = ap (λ (k : ℕ). 22 + widthOf k) (c .before .before .wide .ensures .0) in
-    c .refuse6 .ensures ∙ sym (numbers-long _ _ _ _ _ (omega arith) (omega arith) _ (omega arith) (omega arith) (⊎-elim (λ w e. w .1 .left) (λ w e. absurd (w .left e)) (c .before .before .before .if5 .came)) width (c .before .if7 .taken))
+    let width = ap (λ (w : ℕ). 22 + w) (c .before .before .width .ensures ∙ ap widthOf (c .before .before .before .wide .ensures .0)) in
+    c .refuse6 .ensures ∙ sym (numbers-long _ _ _ _ _ (omega arith) (omega arith) _ (omega arith) (omega arith) (⊎-elim (λ w e. w .1 .left) (λ w e. absurd (w .left e)) (c .before .before .before .before .if5 .came)) width (c .before .if7 .taken))
 
 add-if8 : tie.Need-add-if8
-unfolding widthOf
-add-if8 c = let w = eight-wide (c .before .wide .result) in omega arith
+add-if8 c =
+    let w = eight-wide (c .before .before .wide .result) in
+    let is = c .before .width .ensures in
+    omega arith
 
 refuse-requires-7 : tie.Need-refuse-requires-7
 refuse-requires-7 c κs = search needs
 
 returns-7 : tie.Need-returns-7
-unfolding widthOf
 returns-7 c =
-    let width = ap (λ (k : ℕ). 22 + widthOf k) (c .before .before .before .wide .ensures .0) in
-    c .refuse7 .ensures ∙ sym (numbers-room _ _ _ _ _ (omega arith) (omega arith) _ (omega arith) (omega arith) (⊎-elim (λ w e. w .1 .left) (λ w e. absurd (w .left e)) (c .before .before .before .before .if5 .came)) width (c .before .before .if7 .left) (c .before .if8 .taken))
+    let width = ap (λ (w : ℕ). 22 + w) (c .before .before .before .width .ensures ∙ ap widthOf (c .before .before .before .before .wide .ensures .0)) in
+    c .refuse7 .ensures ∙ sym (numbers-room _ _ _ _ _ (omega arith) (omega arith) _ (omega arith) (omega arith) (⊎-elim (λ w e. w .1 .left) (λ w e. absurd (w .left e)) (c .before .before .before .before .before .if5 .came)) width (c .before .before .if7 .left) (c .before .if8 .taken))
 
-add-t10 : tie.Need-add-t10
-add-t10 c = search needs
+add-t9 : tie.Need-add-t9
+add-t9 c = search needs
 
 returns-8 : tie.Need-returns-8
-unfolding widthOf
 returns-8 c =
-    let width = ap (λ (k : ℕ). 22 + widthOf k) (c .before .before .wide .ensures .0) in
-    sym (numbers-fine _ _ _ _ _ (omega arith) (omega arith) _ (omega arith) (omega arith) (⊎-elim (λ w e. w .1 .left) (λ w e. absurd (w .left e)) (c .before .before .before .if5 .came)) width (c .before .if7 .left) (c .if8 .left))
+    let width = ap (λ (w : ℕ). 22 + w) (c .before .before .width .ensures ∙ ap widthOf (c .before .before .before .wide .ensures .0)) in
+    sym (numbers-fine _ _ _ _ _ (omega arith) (omega arith) _ (omega arith) (omega arith) (⊎-elim (λ w e. w .1 .left) (λ w e. absurd (w .left e)) (c .before .before .before .before .if5 .came)) width (c .before .if7 .left) (c .if8 .left))
 
 pub judge-numbers-spec : {M : Type 1} → statement M
 judge-numbers-spec =
@@ -103,8 +103,7 @@ judge-numbers-spec =
     refuse-requires-5
     returns-5
     wide-requires
-    mul-front
-    array-read-front
+    width-requires
     add-front
     sub-if7
     refuse-requires-6
@@ -112,5 +111,5 @@ judge-numbers-spec =
     add-if8
     refuse-requires-7
     returns-7
-    add-t10
+    add-t9
     returns-8)

@@ -1,11 +1,10 @@
 -- The header is put piece by piece, each where the one before ends.
 use borrow.Author.Needs.{needs}
-use native.Mathlib.Omega.{arith}
 use mathlib.Core.Path.{ap, _∙_}
 use mir.Syntax.{w64}
 use Rattle.sim0mq.specs.Codes.{widthOf}
-use Rattle.writing.proofs.SignedLaws.{bits-are}
-use Rattle.writing.proofs.OpenCases.{header-within, header-placed}
+use Rattle.encoding.proofs.SignedLaws.{bits-are}
+use Rattle.writing.proofs.OpenCases.{header-placed}
 use Rattle.writing.proofs.frames.put_header.Statement.{statement}
 use Rattle.writing.proofs.frames.put_header.Tie as tie
 
@@ -13,10 +12,10 @@ slice-aggregate-put : tie.Need-slice-aggregate-put
 slice-aggregate-put c = search needs
 
 put-requires : tie.Need-put-requires
-put-requires c κs = let room = header-within _ _ _ _ _ _ (c .before .before .before .before .pre .1) in omega arith
+put-requires c κs = search needs
 
 put-requires-2 : tie.Need-put-requires-2
-put-requires-2 c κs = let room = header-within _ _ _ _ _ _ (c .before .before .before .before .before .before .before .before .pre .1) in omega arith
+put-requires-2 c κs = search needs
 
 add-at : tie.Need-add-at
 add-at c = search needs
@@ -25,13 +24,13 @@ bits-requires : tie.Need-bits-requires
 bits-requires c κs = search needs
 
 put-number-requires : tie.Need-put-number-requires
-put-number-requires c κs = let room = header-within _ _ _ _ _ _ (c .before .before .before .before .before .before .before .before .before .before .before .before .before .pre .1) in omega arith
+put-number-requires c κs = search needs
 
 add-put-number : tie.Need-add-put-number
 add-put-number c = search needs
 
 put-number-requires-2 : tie.Need-put-number-requires-2
-put-number-requires-2 c κs = let room = header-within _ _ _ _ _ _ (c .before .before .before .before .before .before .before .before .before .before .before .before .before .before .before .before .before .pre .1) in omega arith
+put-number-requires-2 c κs = search needs
 
 add-put-number-2 : tie.Need-add-put-number-2
 add-put-number-2 c = search needs
@@ -39,29 +38,22 @@ add-put-number-2 c = search needs
 wide-requires : tie.Need-wide-requires
 wide-requires c κs = search needs
 
-mul-put-number : tie.Need-mul-put-number
-mul-put-number c = search needs
-
-array-read-put-number : tie.Need-array-read-put-number
-array-read-put-number c = search needs
+width-requires : tie.Need-width-requires
+width-requires c κs = search needs
 
 put-number-requires-3 : tie.Need-put-number-requires-3
-unfolding widthOf
-put-number-requires-3 c κs =
-    let room = header-within _ _ _ _ _ _ (c .before .before .before .before .before .before .before .before .before .before .before .before .before .before .before .before .before .before .before .before .before .before .pre .1) in
-    let width = ap widthOf (c .wide .ensures .0) in
-    omega arith
+put-number-requires-3 c κs = search needs
 
 same-length : tie.Need-same-length
 same-length c = search needs
 
 returns : tie.Need-returns
-unfolding widthOf
 returns c =
-    let start = c .before .before .before .before .before .before .before .before .before .before .before .before .before .before .before .before .before .before .before .before .before .before .before .before .before in
-    let number = c .before .before .before .before .before .before .before .before .before .before .before .before .bits .ensures ∙ bits-are w64 (start .args .number) (start .fits .number) 64 in
-    let width = ap widthOf (c .before .before .before .wide .ensures .0) in
-    header-placed _ _ _ _ _ _ _ _ _ _ _ _ _ number width (start .pre .1) (c .before .before .before .before .before .before .before .before .before .before .before .before .before .before .before .before .before .before .before .before .put .ensures) (c .before .before .before .before .before .before .before .before .before .before .before .before .before .before .before .before .put2 .ensures) (c .before .before .before .before .before .before .before .before .before .before .before .put-number .ensures) (c .before .before .before .before .before .before .before .put-number2 .ensures) (c .before .before .put-number3 .ensures)
+    let start = c .before .before .before .before .before .before .before .before .before .before .before .before .before .before .before .before .before .before .before .before .before .before .before .before .before .before in
+    let number = c .before .before .before .before .before .before .before .before .before .before .before .before .before .bits .ensures ∙ bits-are w64 (start .args .number) (start .fits .number) 64 in
+    let width = c .before .before .before .width .ensures ∙ ap widthOf (c .before .before .before .before .wide .ensures .0) in
+    header-placed _ _ _ _ _ _ _ _ _ _ _ _ _ number width (start .pre .1) (c .before .before .before .before .before .before .before .before .before .before .before .before .before .before .before .before .before .before .before .before .before .put .ensures) (c .before .before .before .before .before .before .before .before .before .before .before .before .before .before .before .before .before .put2 .ensures)
+    (c .before .before .before .before .before .before .before .before .before .before .before .before .put-number .ensures) (c .before .before .before .before .before .before .before .before .put-number2 .ensures) (c .before .before .put-number3 .ensures)
 
 pub put-header-spec : {M : Type 1} → statement M
 put-header-spec =
@@ -77,8 +69,7 @@ put-header-spec =
     put-number-requires-2
     add-put-number-2
     wide-requires
-    mul-put-number
-    array-read-put-number
+    width-requires
     put-number-requires-3
     same-length
     returns)

@@ -1,0 +1,4 @@
+pub mod Placing
+pub mod Scalars
+pub mod Signed
+pub mod Encoded

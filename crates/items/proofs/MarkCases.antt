@@ -1,0 +1,114 @@
+-- How the mark judges answer, case by case, in the words of the code's tests: each return of the code cites the case that it is.
+use Prim.Native.Nat.{ℕ, zero, suc, _+_, _-_, _≤_, _<_}
+use mathlib.Core.Path.{_≡_, refl, _∙_}
+use mathlib.Core.Bool.{true, false}
+use mathlib.Core.List.{List}
+use native.Mathlib.Omega.{arith}
+use native.Mathlib.Numerals.{add-one}
+use native.Mathlib.Nat.{not-suc-le-zero}
+use lib.ListN.{length, getD}
+use lib.Dec.{leb}
+use borrow.Author.Tests.{leb-true, le-leb, lt-leb, ne-eqb}
+use Rattle.sim0mq.specs.Answer.{fine, refused, byte, big}
+use Rattle.sim0mq.specs.Mark.{perRow, Kind, plain, money, moneyPer, unknown, kindOf, currencyTaken, displayTaken, currency, display, markRest, mark, marks}
+use Rattle.sim0mq.proofs.Rows.{allPass, pass-any}
+
+module _ (s : List ℕ) where
+  pub display-short : (t at : ℕ) → length s ≤ at → display s t at ≡ refused 1 (length s)
+  unfolding display
+  display-short t at h = simp (lt-leb (at + 1) (length s) (omega arith))
+
+  pub display-over : (t at : ℕ) → at < length s → displayTaken t (byte s at) ≡ false → display s t at ≡ refused 12 at
+  unfolding display
+  display-over t at h k = simp (le-leb (at + 1) (length s) (omega arith), k)
+
+  pub display-fine : (t at : ℕ) → at < length s → displayTaken t (byte s at) ≡ true → display s t at ≡ fine (at + 1)
+  unfolding display
+  display-fine t at h k = simp (le-leb (at + 1) (length s) (omega arith), k)
+
+  pub currency-short : (at : ℕ) → length s < at + 2 → currency s at ≡ refused 1 (length s)
+  unfolding currency
+  currency-short at h = simp (lt-leb (at + 2) (length s) h)
+
+  pub currency-over : (at : ℕ) → at + 2 ≤ length s → currencyTaken (big s at 2) ≡ false → currency s at ≡ refused 12 at
+  unfolding currency
+  currency-over at h k = simp (le-leb (at + 2) (length s) h, k)
+
+  pub currency-fine : (at : ℕ) → at + 2 ≤ length s → currencyTaken (big s at 2) ≡ true → currency s at ≡ fine (at + 2)
+  unfolding currency
+  currency-fine at h k = simp (le-leb (at + 2) (length s) h, k)
+
+  pub mark-short : (at : ℕ) → length s ≤ at → mark s at ≡ refused 1 (length s)
+  unfolding mark
+  mark-short at h = simp (lt-leb (at + 1) (length s) (omega arith))
+
+-- the unit types of money per quantity are unit types
+pub per-known : (k : ℕ) → getD perRow k 0 < 29
+unfolding allPass
+per-known k = let h : getD perRow k 0 ≤ 28 = leb-true _ 28 (pass-any (λ (t : ℕ). leb t 28) perRow k refl refl) in omega arith
+
+-- the kinds of unit types
+pub kind-plain : (u : ℕ) → u ≤ 28 → kindOf u ≡ plain u
+unfolding kindOf
+kind-plain u h = simp (le-leb u 28 h)
+
+pub kind-between : (u : ℕ) → 28 < u → u ≤ 99 → kindOf u ≡ unknown
+unfolding kindOf
+kind-between u h k = simp (lt-leb u 28 h, le-leb u 99 k)
+
+pub kind-money : (u : ℕ) → u ≡ 100 → kindOf u ≡ money
+unfolding kindOf
+kind-money u e = simp e
+
+pub kind-per : (u : ℕ) → 100 < u → u ≤ 106 → kindOf u ≡ moneyPer (getD perRow (u - 101) 0)
+unfolding kindOf
+kind-per u h k = simp (lt-leb u 28 (omega arith), lt-leb u 99 (omega arith), ne-eqb u 100 (λ e. omega arith), le-leb u 106 k)
+
+pub kind-above : (u : ℕ) → 106 < u → kindOf u ≡ unknown
+unfolding kindOf
+kind-above u h = simp (lt-leb u 28 (omega arith), lt-leb u 99 (omega arith), ne-eqb u 100 (λ e. omega arith), lt-leb u 106 h)
+
+-- a mark whose unit type is u
+module _ (s : List ℕ) (at u : ℕ) (there : at < length s) (is : u ≡ byte s at) where
+  mark-of : (k : Kind) → kindOf u ≡ k → mark s at ≡ markRest s at k
+  unfolding mark
+  mark-of k e = simp (le-leb (at + 1) (length s) (omega arith), ← is, e)
+
+  pub mark-plain : u ≤ 28 → mark s at ≡ display s u (at + 1)
+  unfolding markRest
+  mark-plain k = mark-of (plain u) (kind-plain u k)
+
+  pub mark-between : 28 < u → u ≤ 99 → mark s at ≡ refused 11 at
+  unfolding markRest
+  mark-between k l = mark-of unknown (kind-between u k l)
+
+  pub mark-above : 106 < u → mark s at ≡ refused 11 at
+  unfolding markRest
+  mark-above k = mark-of unknown (kind-above u k)
+
+  pub mark-money : u ≡ 100 → mark s at ≡ currency s (at + 1)
+  unfolding markRest
+  mark-money k = mark-of money (kind-money u k)
+
+  pub mark-per-fine : (t p : ℕ) → 100 < u → u ≤ 106 → t ≡ getD perRow (u - 101) 0 → currency s (at + 1) ≡ fine p → mark s at ≡ display s t p
+  unfolding markRest
+  mark-per-fine t p k l e q = mark-of (moneyPer (getD perRow (u - 101) 0)) (kind-per u k l) ∙ simp (q, e)
+
+  pub mark-per-stop : (k p : ℕ) → 100 < u → u ≤ 106 → currency s (at + 1) ≡ refused k p → mark s at ≡ refused k p
+  unfolding markRest
+  mark-per-stop k p i l q = mark-of (moneyPer (getD perRow (u - 101) 0)) (kind-per u i l) ∙ simp q
+
+-- the marks from a place on: none left, one more, or a refusal
+module _ (s : List ℕ) where
+  pub marks-done : (n at : ℕ) → n ≡ 0 → marks s n at ≡ fine at
+  unfolding marks
+  marks-done n at e = simp e
+
+  pub marks-more : (n m at p : ℕ) → n ≡ m + 1 → mark s at ≡ fine p → marks s n at ≡ marks s m p
+  unfolding marks
+  marks-more n m at p e q = simp (e, add-one, q)
+
+  pub marks-stop : (n at k p : ℕ) → 0 < n → mark s at ≡ refused k p → marks s n at ≡ refused k p
+  unfolding marks
+  marks-stop zero at k p h q = absurd (not-suc-le-zero h)
+  marks-stop (suc n) at k p h q = simp q

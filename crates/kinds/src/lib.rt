@@ -1,0 +1,123 @@
+// The kinds of a scalar value, and the value that some bits write.
+ghost use mathlib.Core.Path.{_≡_};
+ghost use Rattle.kinds.specs.Kinds.{twos, floatOf, doubleOf, withFloat, withDouble};
+
+// A unit mark: unit type, currency code and display code, 0 where the mark has none.
+pub struct Mark {
+    pub unit: u8,
+    pub currency: u16,
+    pub display: u8,
+}
+
+// A scalar value: a signed number of its width, a float, a double, a Boolean, a character of 8 or 16 bits, a float or double with its mark; or, where
+// the bits are a NaN, that they are not a number, with the field's code.
+pub enum Scalar {
+    Byte(i8),
+    Short(i16),
+    Int(i32),
+    Long(i64),
+    Float(f32),
+    Double(f64),
+    Boolean(bool),
+    Char8(u8),
+    Char16(u16),
+    FloatUnit(f32, Mark),
+    DoubleUnit(f64, Mark),
+    NotNumber(u8),
+}
+
+// The signed number of 8 bits that x writes in two's complement.
+pub fn i8_of(x: u8) -> i8
+    ensures { λ r. ⌜ r ≡ twos 8 x ⌝ }
+{
+    if x < 128 {
+        x as i8
+    } else {
+        let y = 255 - x;
+        let z = y as i8;
+        -1 - z
+    }
+}
+
+// The signed number of 16 bits that x writes in two's complement.
+pub fn i16_of(x: u16) -> i16
+    ensures { λ r. ⌜ r ≡ twos 16 x ⌝ }
+{
+    if x < 32768 {
+        x as i16
+    } else {
+        let y = 65535 - x;
+        let z = y as i16;
+        -1 - z
+    }
+}
+
+// The signed number of 32 bits that x writes in two's complement.
+pub fn i32_of(x: u32) -> i32
+    ensures { λ r. ⌜ r ≡ twos 32 x ⌝ }
+{
+    if x < 2147483648 {
+        x as i32
+    } else {
+        let y = 4294967295 - x;
+        let z = y as i32;
+        -1 - z
+    }
+}
+
+// The signed number of 64 bits that x writes in two's complement.
+pub fn i64_of(x: u64) -> i64
+    ensures { λ r. ⌜ r ≡ twos 64 x ⌝ }
+{
+    if x < 9223372036854775808 {
+        x as i64
+    } else {
+        let y = 18446744073709551615 - x;
+        let z = y as i64;
+        -1 - z
+    }
+}
+
+// The float of these bits, of a field of code 4; or that they are not a number.
+pub fn float_of(x: u32) -> Scalar
+    ensures { λ r. ⌜ r ≡ floatOf x ⌝ }
+{
+    if 2139095040 < x % 2147483648 {
+        Scalar::NotNumber(4)
+    } else {
+        Scalar::Float(f32::from_bits(x))
+    }
+}
+
+// The double of these bits, of a field of code 5; or that they are not a number.
+pub fn double_of(x: u64) -> Scalar
+    ensures { λ r. ⌜ r ≡ doubleOf x ⌝ }
+{
+    if 9218868437227405312 < x % 9223372036854775808 {
+        Scalar::NotNumber(5)
+    } else {
+        Scalar::Double(f64::from_bits(x))
+    }
+}
+
+// The float of these bits with its mark, of a field of code 25; or that they are not a number.
+pub fn float_with(bits: u32, mark: Mark) -> Scalar
+    ensures { λ r. ⌜ r ≡ withFloat bits mark ⌝ }
+{
+    if 2139095040 < bits % 2147483648 {
+        Scalar::NotNumber(25)
+    } else {
+        Scalar::FloatUnit(f32::from_bits(bits), mark)
+    }
+}
+
+// The double of these bits with its mark, of a field of code 26; or that they are not a number.
+pub fn double_with(bits: u64, mark: Mark) -> Scalar
+    ensures { λ r. ⌜ r ≡ withDouble bits mark ⌝ }
+{
+    if 9218868437227405312 < bits % 9223372036854775808 {
+        Scalar::NotNumber(26)
+    } else {
+        Scalar::DoubleUnit(f64::from_bits(bits), mark)
+    }
+}
