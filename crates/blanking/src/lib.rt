@@ -10,7 +10,7 @@ ghost use Rattle.reading.specs.Rows.{taken};
 ghost use Rattle.blanking.specs.Blanking.{Blankable, lengthOf};
 ghost use Rattle.sim0mq.specs.Table.{placed};
 use payload::fields::Fielded;
-use payload::fields::outline;
+use payload::fields::next_outline;
 use reading::Lent;
 use reading::Reading;
 use reading::judged;
@@ -48,7 +48,7 @@ fn blank_fields(s: &[u8], base: usize, n: usize, out: &mut [u8])
     let mut left = n;
     let mut at: usize = 0;
     while 0 < left {
-        match outline(s, at) {
+        match next_outline(s, left, at) {
             Fielded::Refused(_) => {
                 return;
             }

@@ -21,6 +21,7 @@ use Rattle.payload.proofs.fields.head.Reads as head
 use Rattle.payload.proofs.fields.size.Reads as size
 use Rattle.payload.proofs.fields.values.Reads as values
 use Rattle.payload.proofs.fields.outline.Reads as outline
+use Rattle.payload.proofs.fields.next_outline.Reads as next-outline
 use Rattle.items.proofs.marks.mark.Reads as mark
 use Rattle.items.proofs.marks.marks.Reads as marks
 use Rattle.items.proofs.marks.currency_taken.Reads as currency-taken
@@ -187,6 +188,9 @@ values-result = determined values.Post (λ κs z e. z) (λ κs. judged) (λ κs.
 
 pub outline-result : Determines outline.Post (λ κs z e. z)
 outline-result = determined outline.Post (λ κs z e. z) (λ κs. fielded) (λ κs. fielded-apart) _ (λ κs a z e p. p)
+
+pub next-outline-result : Determines next-outline.Post (λ κs z e. z)
+next-outline-result = determined next-outline.Post (λ κs z e. z) (λ κs. fielded) (λ κs. fielded-apart) _ (λ κs a z e p. p)
 
 -- The calls of crate header.
 pub header-result : Determines header.Post (λ κs z e. z)

@@ -8,12 +8,12 @@ use native.Mathlib.Numerals.{add-one}
 use native.Mathlib.Nat.{add-zero, mul-zero, not-suc-le-zero, le-div-iff-mul-le, mul-le-mul, lt-of-le-of-lt}
 use lib.ListN.{length, getD, List·getD-eq-default}
 use lib.Dec.{leb, eqb, lit<}
-use borrow.Author.Tests.{eqb-true, eqb-false, leb-true, leb-false, le-leb, lt-leb}
+use borrow.Author.Tests.{ne-eqb, eqb-true, eqb-false, leb-true, leb-false, le-leb, lt-leb}
 use Rattle.sim0mq.specs.Answer.{Answer, fine, refused, _>>=_, need, byte}
 use Rattle.sim0mq.specs.Codes.{codeKnown, widthRow, countsOf, widthOf, boolean}
 use Rattle.sim0mq.specs.Mark.{marks}
 use Rattle.sim0mq.specs.Field.{count, counts, markCount, Head, headOf, headRest, head, booleans, booleansOf, outline}
-use Rattle.payload.specs.Items.{askedFor, sizeAt, NoneAbove, booleansEnd, valuesEnd}
+use Rattle.payload.specs.Items.{askedFor, sizeAt, lastOutline, nextOutline, NoneAbove, booleansEnd, valuesEnd}
 use Rattle.sim0mq.proofs.Answers.{not-fine, fine-eq, needed-bind}
 use Rattle.sim0mq.proofs.Rows.{allPass, pass-at}
 
@@ -247,3 +247,27 @@ module _ (s : List ℕ) (at : ℕ) where
           let g = size-goes s (h .code) (h .values) first z d in
           let l = g .1 in
           simp (a, b, ← (g .0), le-leb (first + z) (length s) l)
+
+-- the outline of the last field, and of the next
+module _ (s : List ℕ) (at : ℕ) where
+  pub last-head-stop : (k p : ℕ) → head s at ≡ refused k p → lastOutline s at ≡ refused k p
+  unfolding lastOutline
+  last-head-stop k p a = simp a
+
+  module _ (h : Head) (a : head s at ≡ fine h) where
+    pub last-size-stop : (k p : ℕ) → sizeAt s (h .code) (h .values) 0 ≡ refused k p → lastOutline s at ≡ refused k p
+    unfolding lastOutline
+    last-size-stop k p d = simp (a, d)
+
+    pub last-fine : (z : ℕ) → sizeAt s (h .code) (h .values) 0 ≡ fine z
+        → lastOutline s at ≡ fine (record { code = h .code; place = at; first = length s - z; size = z; marked = h .marked; values = h .values })
+    unfolding lastOutline
+    last-fine z d = simp (a, d)
+
+  pub next-last : (n : ℕ) → n ≡ 1 → lastOutline s at ≡ nextOutline s n at
+  unfolding nextOutline
+  next-last n e = simp e
+
+  pub next-other : (n : ℕ) → (n ≡ 1 → ⊥) → outline s at ≡ nextOutline s n at
+  unfolding nextOutline
+  next-other n h = simp (ne-eqb n 1 h)

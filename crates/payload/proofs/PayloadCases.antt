@@ -1,23 +1,25 @@
 -- How the payload judge goes on from a place, case by case, with the steps counted so far: what the two loops of the code cite.
-use Prim.Native.Nat.{ℕ, zero, suc, _+_, _*_, _≤_, _<_}
-use mathlib.Core.Path.{_≡_, refl, ap, sym, _∙_}
+use Prim.Native.Nat.{ℕ, zero, suc, _+_, _-_, _*_, _≤_, _<_}
+use mathlib.Core.Path.{_≡_, refl, ap, sym, _∙_, subst}
+use mathlib.Core.Bool.{Bool, true, false}
 use mathlib.Core.List.{List, _∷_}
 use native.Mathlib.Omega.{arith}
 use native.Mathlib.Numerals.{add-one}
 use native.Mathlib.Nat.{add-zero}
 use lib.ListN.{length}
-use borrow.Author.Tests.{le-leb, lt-leb}
+use lib.Dec.{leb, eqb}
+use borrow.Author.Tests.{le-leb, lt-leb, leb-true, eqb-true, eqb-false}
 use Rattle.sim0mq.specs.Answer.{Answer, fine, refused, _>>=_, need, byte}
 use Rattle.sim0mq.specs.Codes.{codeKnown, countsOf, widthOf}
 use Rattle.sim0mq.specs.Mark.{mark, marks}
 use Rattle.sim0mq.specs.Field.{count, Counted, counts, Head, headRest, head, booleans, booleansOf, Field, fieldOf, after, outline, field}
 use Rattle.sim0mq.specs.Payload.{payloadFrom, steps}
 use Rattle.sim0mq.specs.Allowed.{IsMark, withDisplay, withCurrency, withBoth}
-use Rattle.sim0mq.proofs.Answers.{needed, guarded, bind-fine, fine-eq}
+use Rattle.sim0mq.proofs.Answers.{needed, needed-bind, guarded, bind-fine, fine-eq}
 use Rattle.sim0mq.proofs.MarkLaws.{mark-sound}
 use Rattle.sim0mq.proofs.FieldLaws.{count-sound}
-use Rattle.payload.specs.Items.{sizeAt, booleansEnd, valuesEnd, stepsFrom}
-use Rattle.payload.proofs.FieldCases.{size-goes}
+use Rattle.payload.specs.Items.{sizeAt, lastOutline, nextOutline, booleansEnd, valuesEnd, stepsFrom}
+use Rattle.payload.proofs.FieldCases.{size-goes, size-fits, last-fine, next-last, next-other}
 
 -- how far each item goes
 mark-long : {l : List ℕ} → IsMark l → 2 ≤ length l
@@ -137,3 +139,39 @@ module _ (s : List ℕ) (at k : ℕ) where
       steps-more n m j e i q l =
           let g = values-goes s (h .code) (h .values) first e q .0 in
           field-more n m j (fieldOf at h first) i (field-of s at h first a b ∙ simp q) l ∙ ap (λ (x : ℕ). stepsFrom s m x j) (sym g)
+
+-- in an accepted payload the outline of the next field is its outline: the last one's values end where the payload does
+module _ (s : List ℕ) (at : ℕ) where
+  -- a field whose values end with the payload
+  last-of : (h : Head) (first : ℕ) (f : Field) → head s at ≡ fine h → first + h .values * widthOf (h .code) ≤ length s → fieldOf at h first ≡ f
+      → length s ≤ after f → lastOutline s at ≡ fine f
+  unfolding after
+  last-of h first f a within is ends =
+      let z = h .values * widthOf (h .code) in
+      let end : length s ≤ first + z = subst (λ (x : Field). length s ≤ x .first + x .size) (sym is) ends in
+      let sized = size-fits s (h .code) (h .values) 0 (widthOf (h .code)) refl (omega arith) (le-leb z (length s - 0) (omega arith)) in
+      let place : length s - z ≡ first = omega arith in
+      last-fine s at h a z sized ∙ ap (λ (k : ℕ). fine (record { code = h .code; place = at; first = k; size = z; marked = h .marked; values = h .values })) place
+      ∙ ap fine is
+
+  last-is : (fs : List Field) → payloadFrom s 1 at ≡ fine fs → lastOutline s at ≡ outline s at
+  unfolding payloadFrom field outline
+  last-is fs q =
+      let a = bind-fine (field s at) _ q in
+      let b = bind-fine (payloadFrom s 0 (after (a .0))) _ (a .2) in
+      let ends = guarded (leb (length s) (after (a .0))) 13 _ _ (b .1) in
+      let c = bind-fine (outline s at) _ (a .1) in
+      let judged = bind-fine (booleans s (booleansOf (c .0 .code) (c .0 .size)) (c .0 .first)) _ (c .2) in
+      let d = bind-fine (head s at) _ (c .1) in
+      let m = bind-fine (marks s (d .0 .marked) (d .0 .next)) _ (d .2) in
+      let there = needed-bind s (m .0) (d .0 .values * widthOf (d .0 .code)) _ (m .2) in
+      let same : a .0 ≡ c .0 = sym (fine-eq (judged .2)) in
+      last-of (d .0) (m .0) (c .0) (d .1) (there .0) (fine-eq (there .1)) (subst (λ (x : Field). length s ≤ after x) same (leb-true _ _ (ends .0)))
+      ∙ sym (c .1)
+
+  pub next-is : (n : ℕ) (fs : List Field) → 0 < n → payloadFrom s n at ≡ fine fs → nextOutline s n at ≡ outline s at
+  next-is n fs h q = go (eqb n 1) refl
+    where
+      go : (b : Bool) → eqb n 1 ≡ b → nextOutline s n at ≡ outline s at
+      go true e = let one = eqb-true n 1 e in sym (next-last s at n one) ∙ last-is fs (subst (λ (k : ℕ). payloadFrom s k at ≡ fine fs) one q)
+      go false e = sym (next-other s at n (eqb-false n 1 e))

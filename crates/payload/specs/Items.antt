@@ -1,6 +1,9 @@
 -- What the payload's functions answer, over the definitions of the format.
-use Prim.Native.Nat.{ℕ, _+_, _*_, _<_, _≤_}
+use Prim.Native.Nat.{ℕ, _+_, _-_, _*_, _<_, _≤_}
+use mathlib.Core.Bool.{cond}
 use mathlib.Core.List.{List}
+use lib.Dec.{eqb}
+use lib.ListN.{length}
 use Rattle.sim0mq.specs.Answer.{Answer, fine, refused, _>>=_, need, byte}
 use Rattle.sim0mq.specs.Codes.{widthOf}
 use Rattle.sim0mq.specs.Field as F
@@ -33,6 +36,17 @@ unfoldable pub sizeAt : List ℕ → ℕ → ℕ → ℕ → Answer ℕ
 sizeAt s c n first = do
   there ← need s first (n * widthOf c)
   fine (n * widthOf c)
+
+-- The outline of the last field of a payload, at `at`: its values end where the payload does, so that no mark has to be walked to find them.
+unfoldable pub lastOutline : List ℕ → ℕ → Answer F.Field
+lastOutline s at = do
+  h ← F.head s at
+  size ← sizeAt s (h .code) (h .values) 0
+  fine (record { code = h .code; place = at; first = length s - size; size = size; marked = h .marked; values = h .values })
+
+-- The outline of the next of n fields that are left, at `at`.
+unfoldable pub nextOutline : List ℕ → ℕ → ℕ → Answer F.Field
+nextOutline s n at = cond (eqb n 1) (lastOutline s at) (F.outline s at)
 
 -- None of the n bytes from `at` on is above m.
 abbrev pub NoneAbove : List ℕ → ℕ → ℕ → ℕ → Type 0

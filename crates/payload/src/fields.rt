@@ -6,7 +6,7 @@ ghost use lib.Dec.{leb};
 ghost use Rattle.sim0mq.specs.Codes.{boolean as booleanOf};
 ghost use Rattle.sim0mq.specs.Field.{markCount, head as headOf, outline as outlineOf};
 ghost use Rattle.sim0mq.specs.Views.{judged};
-ghost use Rattle.payload.specs.Items.{headed, askedFor, fielded, sizeAt, NoneAbove, booleansEnd, valuesEnd};
+ghost use Rattle.payload.specs.Items.{headed, askedFor, fielded, sizeAt, lastOutline, nextOutline, NoneAbove, booleansEnd, valuesEnd};
 use items::marks::marks;
 use items::numbers::count;
 use items::numbers::wide;
@@ -235,4 +235,34 @@ pub fn outline(s: &[u8], at: usize) -> Fielded
             },
         },
     }
+}
+
+// The outline of the last field of a payload, at `at`, whose values end where the payload does: its marks are not walked.
+fn last_outline(s: &[u8], at: usize) -> Fielded
+    ensures { λ r. ⌜ fielded r ≡ lastOutline (now (s .entry)) at ⌝ }
+{
+    match head(s, at) {
+        Headed::Refused(r) => Fielded::Refused(r),
+        Headed::Accepted(h) => match size(s, h.code, h.values, 0) {
+            Judged::Refused(r) => Fielded::Refused(r),
+            Judged::Accepted(bytes) => Fielded::Accepted(Field {
+                code: h.code,
+                place: at,
+                first: s.len() - bytes,
+                size: bytes,
+                marked: h.marked,
+                values: h.values,
+            }),
+        },
+    }
+}
+
+// The outline of the next of n fields that are left in a payload, at `at`.
+pub fn next_outline(s: &[u8], n: usize, at: usize) -> Fielded
+    ensures { λ r. ⌜ fielded r ≡ nextOutline (now (s .entry)) n at ⌝ }
+{
+    if n == 1 {
+        return last_outline(s, at);
+    }
+    outline(s, at)
 }

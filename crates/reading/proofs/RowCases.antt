@@ -10,14 +10,15 @@ use lib.Seq.{length-take-le, take-at, drop-drop, drop-append-add, sets, length-s
 use borrow.Author.Tests.{leb-true}
 use mathlib.Core.Bool.{Bool, true, false}
 use lib.Dec.{leb}
-use Rattle.sim0mq.specs.Answer.{fine, refused, _>>_, guard, byte}
+use Rattle.sim0mq.specs.Answer.{Answer, fine, refused, _>>_, guard, byte}
 use Rattle.sim0mq.specs.Codes.{codeKnown, countsOf, widthOf}
 use Rattle.sim0mq.specs.Mark.{mark, marks}
 use Rattle.sim0mq.specs.Field.{counts, Head, head, headRest, booleans, booleansOf, Field, after, outline, field}
 use Rattle.sim0mq.specs.Payload.{payloadFrom, moved}
 use Rattle.sim0mq.specs.Table.{row, rows, stored}
 use Rattle.sim0mq.proofs.Answers.{not-fine, needed, needed-bind, guarded, bind-fine, fine-eq}
-use Rattle.payload.proofs.PayloadCases.{mark-goes, head-goes}
+use Rattle.payload.specs.Items.{nextOutline}
+use Rattle.payload.proofs.PayloadCases.{mark-goes, head-goes, next-is}
 use Rattle.reading.specs.Rows.{taken}
 
 -- the table with these numbers from place i on
@@ -151,3 +152,8 @@ pub rows-end : (s : List ℕ) (base : ℕ) (all table : List ℕ) (left at i : �
 unfolding rows
 rows-end s base all table left at i whole e =
     whole ∙ ap (λ (fs : List Field). storedFrom table i (rows (map (moved base) fs))) (fields-none s at left e) ∙ stored-done table i
+
+-- in an accepted payload the next field's outline is told by how many are left
+pub next-outlined : {a : Answer Field} (s : List ℕ) (at left : ℕ) → 0 < left → payloadFrom s left at ≡ fine (taken (payloadFrom s left at))
+    → nextOutline s left at ≡ a → outline s at ≡ a
+next-outlined s at left h q e = sym (next-is s at left _ h q) ∙ e

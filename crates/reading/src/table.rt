@@ -9,7 +9,7 @@ ghost use Rattle.payload.specs.Items.{seen};
 ghost use Rattle.reading.specs.Rows.{Small, Fillable, filled};
 use payload::fields::Field;
 use payload::fields::Fielded;
-use payload::fields::outline;
+use payload::fields::next_outline;
 
 // Stores the five numbers of a field of a payload that begins at place `base`, from place i on.
 fn store(table: &mut [u32], i: usize, base: usize, f: Field)
@@ -32,7 +32,7 @@ pub fn fill(s: &[u8], base: usize, n: usize, table: &mut [u32])
     let mut at: usize = 0;
     let mut i: usize = 0;
     while 0 < left {
-        match outline(s, at) {
+        match next_outline(s, left, at) {
             Fielded::Refused(_) => {
                 return;
             }

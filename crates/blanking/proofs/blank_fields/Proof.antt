@@ -10,7 +10,7 @@ use Rattle.sim0mq.specs.Payload.{payloadFrom, payload, moved}
 use Rattle.sim0mq.specs.Blank.{blanked}
 use Rattle.payload.specs.Items.{fielded}
 use Rattle.reading.specs.Rows.{taken}
-use Rattle.reading.proofs.RowCases.{fields-taken}
+use Rattle.reading.proofs.RowCases.{fields-taken, next-outlined}
 use Rattle.sim0mq.specs.Table.{placed}
 use Rattle.blanking.proofs.BlankCases.{outline-stands, blank-start, blank-turn, blank-end}
 use Rattle.blanking.proofs.blank_fields.Statement.{statement}
@@ -31,8 +31,8 @@ loop-holds : tie.Need-loop-holds Inv-loop μ-loop
 unfolding payload
 loop-holds c = (blank-start _ _ _ _, c .before .before .pre .accepted, c .before .before .pre .room, refl)
 
-outline-requires : tie.Need-outline-requires Inv-loop μ-loop
-outline-requires c κs = search needs
+next-outline-requires : tie.Need-next-outline-requires Inv-loop μ-loop
+next-outline-requires c κs = search needs
 
 enum-told : tie.Need-enum-told Inv-loop μ-loop
 enum-told c = search needs
@@ -41,49 +41,49 @@ same-length : tie.Need-same-length Inv-loop μ-loop
 same-length c = search needs
 
 returns : tie.Need-returns Inv-loop μ-loop
-returns c = absurd (fields-taken _ _ _ (c .before .before .before .before .loop .left - 1) _ _ (omega arith) (c .before .before .before .before .loop .inv .1) (sym (c .before .before .outline .ensures) ∙ ap fielded (c .enum-told .given .1)))
+returns c = absurd (fields-taken _ _ _ (c .before .before .before .before .loop .left - 1) _ _ (omega arith) (c .before .before .before .before .loop .inv .1) (next-outlined _ _ _ (c .before .before .before .loop-test .taken) (c .before .before .before .before .loop .inv .1) (sym (c .before .before .next-outline .ensures) ∙ ap fielded (c .enum-told .given .1))))
 
 enum-known-f : tie.Need-enum-known-f Inv-loop μ-loop
 enum-known-f c = search needs
 
 sub-copy : tie.Need-sub-copy Inv-loop μ-loop
 sub-copy c =
-    let stands = outline-stands _ _ _ (sym (c .before .before .before .outline .ensures) ∙ ap fielded (c .before .f .given .1)) in
+    let stands = outline-stands _ _ _ (next-outlined _ _ _ (c .before .before .before .before .loop-test .taken) (c .before .before .before .before .before .loop .inv .1) (sym (c .before .before .before .next-outline .ensures) ∙ ap fielded (c .before .f .given .1))) in
     omega arith
 
 part-copy-start : tie.Need-part-copy-start Inv-loop μ-loop
 part-copy-start c =
-    let stands = outline-stands _ _ _ (sym (c .before .before .before .outline .ensures) ∙ ap fielded (c .before .f .given .1)) in
+    let stands = outline-stands _ _ _ (next-outlined _ _ _ (c .before .before .before .before .loop-test .taken) (c .before .before .before .before .before .loop .inv .1) (sym (c .before .before .before .next-outline .ensures) ∙ ap fielded (c .before .f .given .1))) in
     omega arith
 
 part-copy-end : tie.Need-part-copy-end Inv-loop μ-loop
 part-copy-end c =
-    let stands = outline-stands _ _ _ (sym (c .before .before .before .outline .ensures) ∙ ap fielded (c .before .f .given .1)) in
+    let stands = outline-stands _ _ _ (next-outlined _ _ _ (c .before .before .before .before .loop-test .taken) (c .before .before .before .before .before .loop .inv .1) (sym (c .before .before .before .next-outline .ensures) ∙ ap fielded (c .before .f .given .1))) in
     omega arith
 
 add-copy : tie.Need-add-copy Inv-loop μ-loop
 add-copy c =
-    let stands = outline-stands _ _ _ (sym (c .before .before .before .before .before .outline .ensures) ∙ ap fielded (c .before .before .before .f .given .1)) in
+    let stands = outline-stands _ _ _ (next-outlined _ _ _ (c .before .before .before .before .before .before .loop-test .taken) (c .before .before .before .before .before .before .before .loop .inv .1) (sym (c .before .before .before .before .before .next-outline .ensures) ∙ ap fielded (c .before .before .before .f .given .1))) in
     omega arith
 
 copy-requires : tie.Need-copy-requires Inv-loop μ-loop
 copy-requires c κs =
-    let stands = outline-stands _ _ _ (sym (c .before .before .before .before .before .outline .ensures) ∙ ap fielded (c .before .before .before .f .given .1)) in
+    let stands = outline-stands _ _ _ (next-outlined _ _ _ (c .before .before .before .before .before .before .loop-test .taken) (c .before .before .before .before .before .before .before .loop .inv .1) (sym (c .before .before .before .before .before .next-outline .ensures) ∙ ap fielded (c .before .before .before .f .given .1))) in
     omega arith
 
 add-wipe : tie.Need-add-wipe Inv-loop μ-loop
 add-wipe c =
-    let stands = outline-stands _ _ _ (sym (c .before .before .before .before .before .before .before .before .before .outline .ensures) ∙ ap fielded (c .before .before .before .before .before .before .before .f .given .1)) in
+    let stands = outline-stands _ _ _ (next-outlined _ _ _ (c .before .before .before .before .before .before .before .before .before .before .loop-test .taken) (c .before .before .before .before .before .before .before .before .before .before .before .loop .inv .1) (sym (c .before .before .before .before .before .before .before .before .before .next-outline .ensures) ∙ ap fielded (c .before .before .before .before .before .before .before .f .given .1))) in
     omega arith
 
 wipe-requires : tie.Need-wipe-requires Inv-loop μ-loop
 wipe-requires c κs =
-    let stands = outline-stands _ _ _ (sym (c .before .before .before .before .before .before .before .before .before .outline .ensures) ∙ ap fielded (c .before .before .before .before .before .before .before .f .given .1)) in
+    let stands = outline-stands _ _ _ (next-outlined _ _ _ (c .before .before .before .before .before .before .before .before .before .before .loop-test .taken) (c .before .before .before .before .before .before .before .before .before .before .before .loop .inv .1) (sym (c .before .before .before .before .before .before .before .before .before .next-outline .ensures) ∙ ap fielded (c .before .before .before .before .before .before .before .f .given .1))) in
     omega arith
 
 add-at : tie.Need-add-at Inv-loop μ-loop
 add-at c =
-    let stands = outline-stands _ _ _ (sym (c .before .before .before .before .before .before .before .before .before .before .before .before .outline .ensures) ∙ ap fielded (c .before .before .before .before .before .before .before .before .before .before .f .given .1)) in
+    let stands = outline-stands _ _ _ (next-outlined _ _ _ (c .before .before .before .before .before .before .before .before .before .before .before .before .before .loop-test .taken) (c .before .before .before .before .before .before .before .before .before .before .before .before .before .before .loop .inv .1) (sym (c .before .before .before .before .before .before .before .before .before .before .before .before .next-outline .ensures) ∙ ap fielded (c .before .before .before .before .before .before .before .before .before .before .f .given .1))) in
     omega arith
 
 sub-left : tie.Need-sub-left Inv-loop μ-loop
@@ -95,7 +95,7 @@ loop-less c = search needs
 loop-again : tie.Need-loop-again Inv-loop μ-loop
 loop-again c =
     let inv = c .before .before .before .before .before .before .before .before .before .before .before .before .before .before .loop .inv in
-    let outlined = sym (c .before .before .before .before .before .before .before .before .before .before .before .before .outline .ensures) ∙ ap fielded (c .before .before .before .before .before .before .before .before .before .before .f .given .1) in
+    let outlined = (next-outlined _ _ _ (c .before .before .before .before .before .before .before .before .before .before .before .before .before .loop-test .taken) (c .before .before .before .before .before .before .before .before .before .before .before .before .before .before .loop .inv .1) (sym (c .before .before .before .before .before .before .before .before .before .before .before .before .next-outline .ensures) ∙ ap fielded (c .before .before .before .before .before .before .before .before .before .before .f .given .1))) in
     let r = blank-turn _ _ _ _ (c .before .before .before .before .before .before .copy .last .1 .0) (c .before .before .wipe .last .0) _ _ _ (inv .0) (inv .1) (inv .2) (c .before .before .before .before .before .before .before .before .before .before .before .before .before .loop-test .taken) outlined (c .before .before .before .before .before .before .copy .ensures) (c .before .before .wipe .ensures) in
     (r .0, r .1, omega arith, omega arith)
 
@@ -112,7 +112,7 @@ blank-fields-spec =
     Inv-loop
     μ-loop
     loop-holds
-    outline-requires
+    next-outline-requires
     enum-told
     same-length
     returns

@@ -1,6 +1,6 @@
 -- The rows from here on, stored from here on, are what the whole comes to.
 use borrow.Author.Needs.{needs}
-use Rattle.reading.proofs.RowCases.{storedFrom, stored-start, outline-goes, fields-taken, row-turn, rows-end}
+use Rattle.reading.proofs.RowCases.{storedFrom, stored-start, outline-goes, fields-taken, row-turn, rows-end, next-outlined}
 use native.Mathlib.Omega.{arith}
 use Prim.Native.Nat.{_+_, _*_, _-_, _≤_}
 use mathlib.Core.Path.{_≡_, refl, sym, ap, _∙_}
@@ -33,8 +33,8 @@ loop-holds c =
     let room = c .before .before .pre .room in
     (stored-start _ _, c .before .before .pre .accepted, omega arith, omega arith, refl)
 
-outline-requires : tie.Need-outline-requires Inv-loop μ-loop
-outline-requires c κs = search needs
+next-outline-requires : tie.Need-next-outline-requires Inv-loop μ-loop
+next-outline-requires c κs = search needs
 
 enum-told : tie.Need-enum-told Inv-loop μ-loop
 enum-told c = search needs
@@ -43,14 +43,14 @@ same-length : tie.Need-same-length Inv-loop μ-loop
 same-length c = search needs
 
 returns : tie.Need-returns Inv-loop μ-loop
-returns c = absurd (fields-taken _ _ _ (c .before .before .before .before .loop .left - 1) _ _ (omega arith) (c .before .before .before .before .loop .inv .1) (sym (c .before .before .outline .ensures) ∙ ap fielded (c .enum-told .given .1)))
+returns c = absurd (fields-taken _ _ _ (c .before .before .before .before .loop .left - 1) _ _ (omega arith) (c .before .before .before .before .loop .inv .1) (next-outlined _ _ _ (c .before .before .before .loop-test .taken) (c .before .before .before .before .loop .inv .1) (sym (c .before .before .next-outline .ensures) ∙ ap fielded (c .enum-told .given .1))))
 
 enum-known-f : tie.Need-enum-known-f Inv-loop μ-loop
 enum-known-f c = search needs
 
 store-requires : tie.Need-store-requires Inv-loop μ-loop
 store-requires c κs =
-    let g = outline-goes _ _ _ (sym (c .before .before .before .before .outline .ensures) ∙ ap fielded (c .before .before .f .given .1)) in
+    let g = outline-goes _ _ _ (next-outlined _ _ _ (c .before .before .before .before .before .loop-test .taken) (c .before .before .before .before .before .before .loop .inv .1) (sym (c .before .before .before .before .next-outline .ensures) ∙ ap fielded (c .before .before .f .given .1))) in
     let code = g .0 in
     let place = g .1 in
     let marked = g .2 in
@@ -62,7 +62,7 @@ store-requires c κs =
 
 add-at : tie.Need-add-at Inv-loop μ-loop
 add-at c =
-    let g = outline-goes _ _ _ (sym (c .before .before .before .before .before .before .before .before .outline .ensures) ∙ ap fielded (c .before .before .before .before .before .before .f .given .1)) in
+    let g = outline-goes _ _ _ (next-outlined _ _ _ (c .before .before .before .before .before .before .before .before .before .loop-test .taken) (c .before .before .before .before .before .before .before .before .before .before .loop .inv .1) (sym (c .before .before .before .before .before .before .before .before .next-outline .ensures) ∙ ap fielded (c .before .before .before .before .before .before .f .given .1))) in
     let end = g .3 in
     let short = c .before .before .before .before .before .before .before .before .before .before .loop .inv .3 in
     omega arith
@@ -79,7 +79,7 @@ loop-less c = search needs
 loop-again : tie.Need-loop-again Inv-loop μ-loop
 loop-again c =
     let inv = c .before .before .before .before .before .before .before .before .before .before .loop .inv in
-    let outlined = sym (c .before .before .before .before .before .before .before .before .outline .ensures) ∙ ap fielded (c .before .before .before .before .before .before .f .given .1) in
+    let outlined = (next-outlined _ _ _ (c .before .before .before .before .before .before .before .before .before .loop-test .taken) (c .before .before .before .before .before .before .before .before .before .before .loop .inv .1) (sym (c .before .before .before .before .before .before .before .before .next-outline .ensures) ∙ ap fielded (c .before .before .before .before .before .before .f .given .1))) in
     let r = row-turn _ _ _ _ (c .before .before .before .store .last .0) _ _ _ _ (inv .0) (inv .1) (c .before .before .before .before .before .before .before .before .before .loop-test .taken) (inv .2) outlined (c .before .before .before .store .ensures) in
     (r .0, r .1, r .2, inv .3, r .3 ∙ inv .4)
 
@@ -97,7 +97,7 @@ fill-spec =
     Inv-loop
     μ-loop
     loop-holds
-    outline-requires
+    next-outline-requires
     enum-told
     same-length
     returns
