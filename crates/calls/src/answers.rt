@@ -1,11 +1,11 @@
 // What a call of the writer answers, as text: a line with its word and the bytes written so far, or with the refusal. The first byte of the output that
 // the call may not change and did gets a line too, and so does a refused call that hands back another state than it has to.
+use copies::fault;
 use lines::part;
 use listing::number;
 use listing::put;
 use sim0mq::Judged;
 use sim0mq::Refusal;
-use texts::copies::fault;
 use writing::Writer;
 use writing::Wrote;
 

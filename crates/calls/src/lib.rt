@@ -1,5 +1,7 @@
 // A case that writes: its calls of the writer, one a line, and what they answer, as text.
 use crate::answers::NOTHING;
+use copies::BEFORE;
+use copies::ROOM;
 use lines::NONE;
 use lines::find;
 use lines::part;
@@ -11,8 +13,6 @@ use lines::spaced;
 use lines::starts;
 use lines::tokens;
 use listing::put;
-use texts::copies::BEFORE;
-use texts::copies::ROOM;
 use writing::CountType;
 use writing::Writer;
 

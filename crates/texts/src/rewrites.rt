@@ -1,8 +1,8 @@
 // Whether writing gives a message back: opened with the message's own ids, number, status and count, its fields added in turn, and closed.
-use crate::copies::BEFORE;
-use crate::copies::ROOM;
-use crate::copies::touched;
 use asking::scalars::Value;
+use copies::BEFORE;
+use copies::ROOM;
+use copies::touched;
 use header::Frame;
 use items::numbers::number;
 use kinds::Scalar;

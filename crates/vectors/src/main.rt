@@ -6,7 +6,6 @@ use lines::last;
 use lines::part;
 use lines::starts;
 use lines::tokens;
-use texts::copies;
 use texts::rewrites;
 use texts::values;
 

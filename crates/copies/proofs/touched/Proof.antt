@@ -3,8 +3,8 @@
 use Prim.Native.Nat.{_-_}
 use lib.ListN.{length}
 use borrow.Author.Needs.{needs}
-use Rattle.texts.proofs.copies.touched.Statement.{statement}
-use Rattle.texts.proofs.copies.touched.Tie as tie
+use Rattle.copies.proofs.touched.Statement.{statement}
+use Rattle.copies.proofs.touched.Tie as tie
 
 abbrev Inv-loop : tie.InvT-loop
 Inv-loop output from at₀ at = Unit {0}

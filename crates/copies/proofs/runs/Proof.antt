@@ -4,8 +4,8 @@ use Prim.Native.Nat.{_-_}
 use mathlib.Core.Path.{_≡_}
 use lib.ListN.{length}
 use borrow.Author.Needs.{needs}
-use Rattle.texts.proofs.copies.runs.Statement.{statement}
-use Rattle.texts.proofs.copies.runs.Tie as tie
+use Rattle.copies.proofs.runs.Statement.{statement}
+use Rattle.copies.proofs.runs.Tie as tie
 
 abbrev Inv-loop : tie.InvT-loop
 Inv-loop message copy out₀ from at₀ i₀ out at i = length out ≡ length out₀

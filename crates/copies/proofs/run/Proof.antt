@@ -3,8 +3,8 @@
 use Prim.Native.Nat.{_-_, _≤_, max}
 use lib.ListN.{length}
 use borrow.Author.Needs.{needs}
-use Rattle.texts.proofs.copies.run.Statement.{statement}
-use Rattle.texts.proofs.copies.run.Tie as tie
+use Rattle.copies.proofs.run.Statement.{statement}
+use Rattle.copies.proofs.run.Tie as tie
 
 abbrev Inv-loop : tie.InvT-loop
 Inv-loop message copy from at₀ at = (from ≤ at) × (at ≤ max from (length copy))

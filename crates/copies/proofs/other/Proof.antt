@@ -3,8 +3,8 @@
 use Prim.Native.Nat.{_-_}
 use lib.ListN.{length}
 use borrow.Author.Needs.{needs}
-use Rattle.texts.proofs.copies.other.Statement.{statement}
-use Rattle.texts.proofs.copies.other.Tie as tie
+use Rattle.copies.proofs.other.Statement.{statement}
+use Rattle.copies.proofs.other.Tie as tie
 
 abbrev Inv-loop : tie.InvT-loop
 Inv-loop message copy i₀ i = Unit {0}

@@ -131,7 +131,7 @@ fn own(message: &[u8], b: u8, i: usize) -> bool {
 }
 
 // The place of the first byte of the output, from `from` on, that is not as it was before; a place past the output where there is none.
-pub(crate) fn touched(output: &[u8], from: usize) -> usize {
+pub fn touched(output: &[u8], from: usize) -> usize {
     let mut at = from;
     while at < output.len() {
         if output[at] != BEFORE {
