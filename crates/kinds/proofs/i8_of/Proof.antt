@@ -1,3 +1,4 @@
+-- Where the top bit of the 8 is set, the number is one less than the negated complement of its bits, and no step of that leaves its width.
 use borrow.Author.Needs.{needs}
 use Prim.Native.Nat.{_-_}
 use mathlib.Core.Path.{sym, ap, _∙_}
@@ -9,27 +10,21 @@ use Rattle.kinds.proofs.Signed.{flip-fits, flip-back, twos-low, twos-hi
 use Rattle.kinds.proofs.i8_of.Statement.{statement}
 use Rattle.kinds.proofs.i8_of.Tie as tie
 
--- src/scalars.rt:40:9
 cast-result : tie.Need-cast-result
 cast-result c = search needs
 
--- src/scalars.rt:42:17
 sub-y : tie.Need-sub-y
 sub-y c = search needs
 
--- src/scalars.rt:43:17
 cast-z : tie.Need-cast-z
 cast-z c = search needs
 
--- src/scalars.rt:44:9
 sub-result : tie.Need-sub-result
 sub-result c = flip-fits w8 (255 - c .before .args .x) (omega arith)
 
--- src/scalars.rt:36:1
 returns : tie.Need-returns
 returns c = toZ-pos w8 _ (omega arith) ∙ sym (twos-low 8 _ (omega arith))
 
--- src/scalars.rt:36:1
 returns-2 : tie.Need-returns-2
 returns-2 c = flip-back w8 (255 - c .before .args .x) (omega arith) ∙ ap negsuc (omega arith) ∙ sym (twos-high 8 _ (omega arith))
 
