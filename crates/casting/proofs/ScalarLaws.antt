@@ -9,8 +9,8 @@ use lib.Ieee.{Format, Float, nan, ne, toBits}
 use lib.Ieee.Compare.{differs-from-itself}
 use Rattle.asking.specs.Bytes.{bitsOf}
 use Rattle.kinds.specs.declared.Mark.{Mark}
-use Rattle.encoding.specs.Signed.{bitsUpTo}
-use Rattle.encoding.proofs.SignedLaws.{bits-of}
+use Rattle.puts.specs.Signed.{bitsUpTo}
+use Rattle.puts.proofs.SignedLaws.{bits-of}
 use Rattle.casting.specs.Casting.{withMark, withNone}
 
 -- What differs from itself is the NaN.

@@ -55,9 +55,10 @@ use Rattle.writing.proofs.Writer.open.Reads as opening
 use Rattle.writing.proofs.Writer.add.Reads as add
 use Rattle.writing.proofs.Writer.add_scalar.Reads as add-scalar
 use Rattle.writing.proofs.Writer.close.Reads as close
-use Rattle.encoding.proofs.signed.bits.Reads as bits
-use Rattle.encoding.proofs.puts.put.Reads as put-text
-use Rattle.encoding.proofs.puts.put_number.Reads as put-number
+use Rattle.puts.proofs.bits.Reads as bits
+use Rattle.puts.proofs.put.Reads as put-text
+use Rattle.puts.proofs.put_big.Reads as put-big
+use Rattle.puts.proofs.put_number.Reads as put-number
 use Rattle.encoding.proofs.scalars.encode.Reads as encode
 use Rattle.crossing.proofs.numbers.read_numbers.Reads as read-numbers
 use Rattle.crossing.proofs.numbers.length_numbers.Reads as length-numbers
@@ -253,16 +254,20 @@ blank-result = determined blank.Post (λ κs z e. z) (λ κs. judged) (λ κs. j
 pub blank-out : Determines blank.Post (λ κs z e. now (e .1 .0))
 blank-out = equated blank.Post (λ κs z e. now (e .1 .0)) _ (λ κs a z e p. p .1)
 
--- The calls of crate encoding.
+-- The calls of crate puts.
 pub bits-result : Determines bits.Post (λ κs z e. z)
 bits-result = equated bits.Post (λ κs z e. z) _ (λ κs a z e p. p)
 
 pub put-text-out : Determines put-text.Post (λ κs z e. now (e .1 .0))
 put-text-out = equated put-text.Post (λ κs z e. now (e .1 .0)) _ (λ κs a z e p. p)
 
+pub put-big-out : Determines put-big.Post (λ κs z e. now (e .0))
+put-big-out = equated put-big.Post (λ κs z e. now (e .0)) _ (λ κs a z e p. p)
+
 pub put-number-out : Determines put-number.Post (λ κs z e. now (e .0))
 put-number-out = equated put-number.Post (λ κs z e. now (e .0)) _ (λ κs a z e p. p)
 
+-- The calls of crate encoding.
 pub encode-result : Determines encode.Post (λ κs z e. z)
 encode-result = equated encode.Post (λ κs z e. z) _ (λ κs a z e p. p)
 

@@ -22,12 +22,12 @@ use Rattle.kinds.specs.declared.Scalar.the-variants.{Boolean}
 use Rattle.encoding.specs.declared.scalars.Encoded.{Encoded}
 use Rattle.encoding.specs.Scalars.{codeOf, scalarText, markTaken, writable, scalarGiven}
 use Rattle.sim0mq.specs.Table.{placed}
-use Rattle.encoding.specs.Placing.{numberText}
-use Rattle.encoding.specs.Signed.{bitsUpTo}
+use Rattle.puts.specs.Placing.{numberText, putIn}
+use Rattle.puts.specs.Signed.{bitsUpTo}
 use Rattle.encoding.specs.Encoded.{encodedAs, markedGiven}
 use Rattle.sim0mq.proofs.PlaceLaws.{placed-length, placed-on}
-use Rattle.encoding.proofs.PlaceLaws.{placed-byte, placed-coded, big-length}
-use Rattle.encoding.proofs.SignedLaws.{bits-of}
+use Rattle.puts.proofs.PlaceLaws.{placed-byte, placed-coded, big-length, big-fits}
+use Rattle.puts.proofs.SignedLaws.{bits-of}
 
 -- whether a mark is taken, whose unit type is u
 module _ (m : Mark) (u : ℕ) (is : u ≡ m .unit) where
@@ -104,9 +104,11 @@ module _ (m : Mark) where
         ∙ ap (λ (o : List ℕ). placed o 2 (m .display ∷ [])) (placed-byte out 1 (m .unit) (omega arith))
         ∙ placed-on out 1 (m .unit ∷ []) (m .display ∷ []) 2 refl (omega arith))
 
-    module _ (now : List ℕ) (e : now ≡ placed (set out 1 (m .unit)) 2 (bigBytes 2 (m .currency))) where
+    module _ (now : List ℕ) (e : now ≡ putIn (set out 1 (m .unit)) 2 (bigBytes 2 (m .currency))) where
       coded : now ≡ placed out 1 (numberText (m .unit) 2 (m .currency))
-      coded = e ∙ placed-coded out 1 (m .unit) 2 (m .currency) (omega arith)
+      coded =
+          e ∙ big-fits (set out 1 (m .unit)) 2 2 (m .currency) (omega (arith, length-set out 1 (m .unit)))
+          ∙ placed-coded out 1 (m .unit) 2 (m .currency) (omega arith)
 
       long : length (numberText (m .unit) 2 (m .currency)) ≡ 3
       long = omega (arith, big-length 2 (m .currency))
@@ -158,16 +160,16 @@ module _ (c n x : ℕ) (m : Mark) where
         ap length front
         ∙ placed-length (replicate 13 0) 0 (c ∷ bytesOfMark m (kindOf (m .unit))) (omega (arith, mark-short m (kindOf (m .unit))))
 
-    pub marked-fits : n ≤ 8 → end + n ≤ length marked
+    marked-fits : n ≤ 8 → end + n ≤ length marked
     marked-fits short = omega (arith, marked-short short, front-length)
 
-    pub marked-encoded : (now : List ℕ) → n ≤ 8 → markTaken m (kindOf (m .unit)) ≡ true → now ≡ placed marked end (bigBytes n x)
+    pub marked-encoded : (now : List ℕ) → n ≤ 8 → markTaken m (kindOf (m .unit)) ≡ true → now ≡ putIn marked end (bigBytes n x)
         → _≡_ {A = Encoded} (record { bytes = now; length = end + n }) (encodedAs (markedGiven c m n x))
     unfolding markedGiven
     marked-encoded now short t g =
         let mark = bytesOfMark m (kindOf (m .unit)) in
         let whole : now ≡ placed (replicate 13 0) 0 (c ∷ (mark ++ bigBytes n x))
-        = g ∙ ap (λ (o : List ℕ). placed o end (bigBytes n x)) front
+        = g ∙ big-fits marked end n x (marked-fits short) ∙ ap (λ (o : List ℕ). placed o end (bigBytes n x)) front
         ∙ placed-on (replicate 13 0) 0 (c ∷ mark) (bigBytes n x) end (omega (arith, e)) (omega (arith, marked-short short, big-length n x)) in
         let long : end + n ≡ suc (length (mark ++ bigBytes n x)) = omega (arith, e, length-append mark (bigBytes n x), big-length n x) in
         rw (whole, long, t)

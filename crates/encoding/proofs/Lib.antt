@@ -1,3 +1,1 @@
-pub mod PlaceLaws
-pub mod SignedLaws
 pub mod EncodeCases

@@ -1,4 +1,2 @@
-pub mod Placing
 pub mod Scalars
-pub mod Signed
 pub mod Encoded

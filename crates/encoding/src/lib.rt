@@ -1,4 +1,2 @@
-// Encoding: scalars, numbers and texts as the bytes that a message has of them.
-pub mod puts;
+// Encoding: scalars as the bytes that a message has of them.
 pub mod scalars;
-pub mod signed;

@@ -8,16 +8,16 @@ ghost use Rattle.sim0mq.specs.Mark.{kindOf};
 ghost use Rattle.asking.specs.Bytes.{bytesOfMark};
 ghost use Rattle.encoding.specs.Scalars.{markTaken, scalarGiven};
 ghost use Rattle.sim0mq.specs.Table.{placed};
-ghost use Rattle.encoding.specs.Placing.{numberText};
+ghost use Rattle.puts.specs.Placing.{numberText};
 ghost use Rattle.encoding.specs.Encoded.{encodedAs, markedGiven};
-use crate::puts::put_big;
-use crate::puts::put_number;
-use crate::signed::bits;
 use items::marks::currency_taken;
 use items::marks::display_taken;
 use items::numbers::wide;
 use kinds::Mark;
 use kinds::Scalar;
+use puts::bits;
+use puts::put_big;
+use puts::put_number;
 use tables::per;
 
 // An encoded field: its bytes, with zero after them, and how many they are; none where it may not be written.

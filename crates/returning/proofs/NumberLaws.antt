@@ -16,7 +16,7 @@ use Rattle.sim0mq.proofs.Stands.{Stands, big-number}
 use Rattle.kinds.specs.Kinds.{twos}
 use Rattle.asking.specs.Bytes.{bigBytes, bitsOf}
 use Rattle.returning.specs.Promises.{InWidth}
-use Rattle.encoding.proofs.PlaceLaws.{big-length}
+use Rattle.puts.proofs.PlaceLaws.{big-length}
 
 -- one byte more weighs least
 number-last : (a : ℕ) (l : List ℕ) (b : ℕ) → numberAfter a (l ++ (b ∷ [])) ≡ numberAfter a l * 256 + b

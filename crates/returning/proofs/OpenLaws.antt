@@ -17,7 +17,7 @@ use Rattle.sim0mq.proofs.Answers.{bind-fine, guarded, fine-eq, and-true}
 use Rattle.sim0mq.proofs.Stands.{stands-self, stands-same}
 use Rattle.sim0mq.proofs.Rows.{allPass, count-scalar}
 use Rattle.asking.specs.Bytes.{bigBytes, bitsOf}
-use Rattle.encoding.specs.Placing.{numberText}
+use Rattle.puts.specs.Placing.{numberText}
 use Rattle.writing.specs.Writing.{Opening, countCode, holds, headerWith, headerText, idsFrom, fitting, opening}
 use Rattle.returning.proofs.NumberLaws.{numberParts, number-back, first-byte}
 use Rattle.returning.proofs.FrameLaws.{oneNumber, number-frame}

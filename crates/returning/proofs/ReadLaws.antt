@@ -26,11 +26,11 @@ use Rattle.asking.proofs.AskLaws.{asked-nth}
 use Rattle.asking.proofs.BackLaws.{part-back}
 use Rattle.asking.proofs.Promises.{asking-agrees-with-reading, value-is-its-bytes}
 use Rattle.encoding.specs.Scalars.{scalarText, writable, scalarGiven}
-use Rattle.encoding.specs.Placing.{numberText}
+use Rattle.puts.specs.Placing.{numberText}
 use Rattle.writing.specs.Writing.{Opening, countCode, headerWith, headerText, Given, scalar, fieldGiven}
 use Rattle.returning.specs.History.{Point, Finished, bytesOf}
 use Rattle.returning.specs.Promises.{Held, framePlace, SaysHeader, ReadsBack}
-use Rattle.encoding.proofs.PlaceLaws.{big-length}
+use Rattle.puts.proofs.PlaceLaws.{big-length}
 use Rattle.returning.proofs.NumberLaws.{number-read, signed-back, bits-held}
 use Rattle.returning.proofs.ScalarLaws.{scalar-back}
 use Rattle.returning.proofs.JoinLaws.{flat-same, four-long}

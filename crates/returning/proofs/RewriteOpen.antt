@@ -21,7 +21,7 @@ use Rattle.asking.specs.Bytes.{bigBytes, bitsOf}
 use Rattle.kinds.specs.Kinds.{twos}
 use Rattle.asking.proofs.ByteLaws.{bytes-back, big-fits, bits-back}
 use Rattle.asking.proofs.BackLaws.{part-back, one-byte}
-use Rattle.encoding.specs.Placing.{numberText}
+use Rattle.puts.specs.Placing.{numberText}
 use Rattle.writing.specs.Writing.{Opening, asksFor, countCode, holds, headerWith, headerText, idsFrom, fitting, opening}
 use Rattle.writing.specs.declared.CountType.the-variants.{Stated}
 use Rattle.returning.proofs.FrameLaws.{oneNumber, frame-text}

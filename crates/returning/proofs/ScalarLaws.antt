@@ -28,7 +28,7 @@ use Rattle.kinds.specs.declared.Scalar.{Scalar}
 use Rattle.kinds.specs.declared.Scalar.the-variants.{Byte, Short, Int, Long, Float, Double, Boolean, Char8, Char16, FloatUnit, DoubleUnit, NotNumber}
 use Rattle.encoding.specs.Scalars.{codeOf, scalarText, markTaken, writable}
 use Rattle.returning.specs.Promises.{InWidth, Held}
-use Rattle.encoding.proofs.PlaceLaws.{big-length}
+use Rattle.puts.proofs.PlaceLaws.{big-length}
 use Rattle.returning.proofs.NumberLaws.{number-read, number-back, signed-back, bits-held, markedParts, marked-is, number-is}
 
 -- the strings of a scalar's marks: one or none

@@ -22,11 +22,11 @@ use Rattle.header.proofs.FrameCases.{nth-id, nth-goes}
 use Rattle.asking.specs.Bytes.{bitsOf}
 use Rattle.writing.specs.declared.Wrote.{Wrote}
 use Rattle.sim0mq.specs.Table.{placed}
-use Rattle.encoding.specs.Placing.{numberText, putIn}
+use Rattle.puts.specs.Placing.{numberText, putIn}
 use Rattle.writing.specs.Writing.{Opening, idsFrom, countCode, holds, headerWith, headerText, fitting, opening}
 use Rattle.writing.specs.Judges.{numbersJudged, openingJudged}
 use Rattle.sim0mq.proofs.PlaceLaws.{placed-length, placed-on}
-use Rattle.encoding.proofs.PlaceLaws.{big-length, put-fits}
+use Rattle.puts.proofs.PlaceLaws.{big-length, put-fits}
 
 -- the id frames from `at` on: a refused one, the next one, bytes after the last, no byte after it
 module _ (s : List ℕ) (n at : ℕ) where

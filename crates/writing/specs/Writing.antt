@@ -17,7 +17,7 @@ use Rattle.asking.specs.Bytes.{bitsOf}
 use Rattle.kinds.specs.declared.Scalar.{Scalar}
 use Rattle.encoding.specs.Scalars.{scalarGiven}
 use Rattle.sim0mq.specs.Table.{placed}
-use Rattle.encoding.specs.Placing.{numberText}
+use Rattle.puts.specs.Placing.{numberText}
 use Rattle.writing.specs.declared.CountType.{CountType}
 use Rattle.writing.specs.declared.CountType.the-variants.{Unstated, Stated}
 use Rattle.writing.specs.declared.Writer.{Writer}

@@ -7,12 +7,12 @@ ghost use Rattle.sim0mq.specs.Table.{placed};
 ghost use Rattle.writing.specs.Writing.{idsFrom, countCode, headerWith};
 ghost use Rattle.writing.specs.Judges.{numbersJudged, openingJudged};
 use crate::CountType;
-use encoding::puts::put;
-use encoding::puts::put_number;
-use encoding::signed::bits;
 use header::id;
 use items::numbers::wide;
 use payload::fields::Fielded;
+use puts::bits;
+use puts::put;
+use puts::put_number;
 use sim0mq::Judged;
 use tables::width;
 

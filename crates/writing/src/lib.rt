@@ -7,10 +7,10 @@ ghost use Rattle.writing.specs.Writing.{asksFor, opening, afterOpening, 
 use crate::frames::code_of;
 use crate::frames::judge_opening;
 use crate::frames::put_header;
-use encoding::puts::put;
 use encoding::scalars::encode;
 use kinds::Scalar;
 use payload::payload;
+use puts::put;
 use sim0mq::Judged;
 use sim0mq::Refusal;
 

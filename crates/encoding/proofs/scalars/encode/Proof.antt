@@ -8,7 +8,7 @@ use Rattle.asking.specs.Bytes.{markBytes, scalarBytes}
 use Rattle.kinds.specs.declared.Scalar.the-variants.{Byte, Short, Int, Long, Boolean, Char8, Char16, NotNumber}
 use Rattle.kinds.proofs.Signed.{widened}
 use Rattle.encoding.specs.Scalars.{codeOf, scalarText, writable}
-use Rattle.encoding.proofs.SignedLaws.{wider}
+use Rattle.puts.proofs.SignedLaws.{wider}
 use Rattle.encoding.proofs.EncodeCases.{unwritable, written, signed-written, truth-text}
 use Rattle.encoding.proofs.scalars.encode.Statement.{statement}
 use Rattle.encoding.proofs.scalars.encode.Tie as tie

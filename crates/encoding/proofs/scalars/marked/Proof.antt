@@ -3,7 +3,7 @@ use borrow.Author.Needs.{needs}
 use mathlib.Core.Path.{sym, _∙_}
 use native.Mathlib.Omega.{arith}
 use borrow.Author.Tests.{not-true, not-false}
-use Rattle.encoding.proofs.EncodeCases.{untaken-encoded, marked-short, marked-fits, marked-encoded}
+use Rattle.encoding.proofs.EncodeCases.{untaken-encoded, marked-short, marked-encoded}
 use Rattle.encoding.proofs.scalars.marked.Statement.{statement}
 use Rattle.encoding.proofs.scalars.marked.Tie as tie
 
@@ -28,10 +28,7 @@ slice-aggregate-put-big : tie.Need-slice-aggregate-put-big
 slice-aggregate-put-big c = search needs
 
 put-big-requires : tie.Need-put-big-requires
-put-big-requires c κs =
-    let start = c .before .before .before .before .before .before in
-    let put = c .before .before .put-mark .ensures in
-    marked-fits (start .args .code) (start .args .n) (start .args .x) (start .args .mark) _ _ (put .0) (put .1) (start .pre)
+put-big-requires c κs = search needs
 
 add-t18 : tie.Need-add-t18
 add-t18 c =

@@ -3,8 +3,8 @@ use borrow.Author.Needs.{needs}
 use native.Mathlib.Omega.{arith}
 use mathlib.Core.Path.{_∙_}
 use lib.ListN.{replicate}
-use Rattle.encoding.specs.Placing.{numberText}
-use Rattle.encoding.proofs.PlaceLaws.{big-length, put-fits}
+use Rattle.puts.specs.Placing.{numberText}
+use Rattle.puts.proofs.PlaceLaws.{big-length, put-fits}
 use Rattle.encoding.proofs.EncodeCases.{plain-encoded}
 use Rattle.encoding.proofs.scalars.plain.Statement.{statement}
 use Rattle.encoding.proofs.scalars.plain.Tie as tie

@@ -23,7 +23,7 @@ cast-put-big : tie.Need-cast-put-big
 cast-put-big c = search needs
 
 put-big-requires : tie.Need-put-big-requires
-put-big-requires c κs = simp length-set (omega (arith, c .before .before .before .before .before .pre .1))
+put-big-requires c κs = search needs
 
 same-length-2 : tie.Need-same-length-2
 same-length-2 c =

@@ -3,7 +3,7 @@ use borrow.Author.Needs.{needs}
 use mathlib.Core.Path.{ap, _∙_}
 use mir.Syntax.{w64}
 use Rattle.sim0mq.specs.Codes.{widthOf}
-use Rattle.encoding.proofs.SignedLaws.{bits-are}
+use Rattle.puts.proofs.SignedLaws.{bits-are}
 use Rattle.writing.proofs.OpenCases.{header-placed}
 use Rattle.writing.proofs.frames.put_header.Statement.{statement}
 use Rattle.writing.proofs.frames.put_header.Tie as tie

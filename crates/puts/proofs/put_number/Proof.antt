@@ -3,13 +3,13 @@ use borrow.Author.Needs.{needs}
 use Prim.Native.Nat.{_+_, _≤_}
 use native.Mathlib.Omega.{arith}
 use mathlib.Core.Path.{ap, sym, _∙_}
-use lib.ListN.{length, length-set}
+use lib.ListN.{length, set, length-set}
 use Rattle.asking.specs.Bytes.{bigBytes}
-use Rattle.encoding.specs.Placing.{numberText}
+use Rattle.puts.specs.Placing.{numberText}
 use Rattle.sim0mq.proofs.PlaceLaws.{placed-length}
-use Rattle.encoding.proofs.PlaceLaws.{placed-coded, big-length, put-fits, put-over}
-use Rattle.encoding.proofs.puts.put_number.Statement.{statement}
-use Rattle.encoding.proofs.puts.put_number.Tie as tie
+use Rattle.puts.proofs.PlaceLaws.{placed-coded, big-length, big-fits, put-fits, put-over}
+use Rattle.puts.proofs.put_number.Statement.{statement}
+use Rattle.puts.proofs.put_number.Tie as tie
 
 returns : tie.Need-returns
 returns c = put-over _ _ _ (omega arith)
@@ -30,24 +30,24 @@ add-put-big : tie.Need-add-put-big
 add-put-big c = search needs
 
 put-big-requires : tie.Need-put-big-requires
-put-big-requires c κs =
-    let a = c .before .before .before .before .args in
-    let same = length-set (a .out .now) (a .at) (a .code) in
-    omega arith
+put-big-requires c κs = search needs
 
 same-length : tie.Need-same-length
 same-length c =
     let a = c .before .before .before .before .before .before .before .args in
     let same = length-set (a .out .now) (a .at) (a .code) in
     let long = big-length (a .n) (a .x) in
-    ap length (c .before .before .put-big .ensures) ∙ placed-length _ (a .at + 1) (bigBytes (a .n) (a .x)) (omega arith) ∙ same
+    let fits = big-fits (set (a .out .now) (a .at) (a .code)) (a .at + 1) (a .n) (a .x) (omega arith) in
+    ap length (c .before .before .put-big .ensures ∙ fits) ∙ placed-length _ (a .at + 1) (bigBytes (a .n) (a .x)) (omega arith) ∙ same
 
 returns-3 : tie.Need-returns-3
 returns-3 c =
     let a = c .before .before .before .before .before .before .before .args in
+    let same = length-set (a .out .now) (a .at) (a .code) in
     let long = big-length (a .n) (a .x) in
     let room : a .at + 1 + a .n ≤ length (a .out .now) = omega arith in
     c .before .before .put-big .ensures
+    ∙ big-fits (set (a .out .now) (a .at) (a .code)) (a .at + 1) (a .n) (a .x) (omega arith)
     ∙ placed-coded _ _ _ _ _ room
     ∙ sym (put-fits (a .out .now) (a .at) (numberText (a .code) (a .n) (a .x)) (omega arith))
 

@@ -4,9 +4,9 @@ use native.Mathlib.Omega.{arith}
 use Prim.Native.Nat.{_+_, _≤_}
 use mathlib.Core.Path.{sym, _∙_}
 use lib.ListN.{length}
-use Rattle.encoding.proofs.PlaceLaws.{placed-part, put-fits, put-over}
-use Rattle.encoding.proofs.puts.put.Statement.{statement}
-use Rattle.encoding.proofs.puts.put.Tie as tie
+use Rattle.puts.proofs.PlaceLaws.{placed-part, put-fits, put-over}
+use Rattle.puts.proofs.put.Statement.{statement}
+use Rattle.puts.proofs.put.Tie as tie
 
 returns : tie.Need-returns
 returns c = put-over _ _ _ (omega arith)

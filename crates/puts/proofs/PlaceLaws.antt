@@ -8,7 +8,7 @@ use lib.Seq.{length-take-le, take-all, take-length, take-at, drop-at, drop-drop,
 use borrow.Author.Tests.{le-leb, lt-leb}
 use borrow.Rule.Slice.PartMut.{midOf, putMid}
 use Rattle.asking.specs.Bytes.{bigBytes}
-use Rattle.encoding.specs.Placing.{numberText, putIn}
+use Rattle.puts.specs.Placing.{numberText, putIn}
 use Rattle.sim0mq.specs.Table.{placed}
 use Rattle.sim0mq.proofs.PlaceLaws.{placed-on}
 
@@ -87,3 +87,10 @@ put-fits out at text h = simp (le-leb (at + length text) (length out) h)
 pub put-over : (out : List ℕ) (at : ℕ) (text : List ℕ) → length out < at + length text → out ≡ putIn out at text
 unfolding putIn
 put-over out at text h = simp (lt-leb (at + length text) (length out) h)
+
+-- a number of n bytes has room where n bytes have
+pub big-fits : (out : List ℕ) (at n x : ℕ) → at + n ≤ length out → putIn out at (bigBytes n x) ≡ placed out at (bigBytes n x)
+big-fits out at n x h = put-fits out at (bigBytes n x) (omega (arith, big-length n x))
+
+pub big-over : (out : List ℕ) (at n x : ℕ) → length out < at + n → out ≡ putIn out at (bigBytes n x)
+big-over out at n x h = put-over out at (bigBytes n x) (omega (arith, big-length n x))

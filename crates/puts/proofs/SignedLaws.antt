@@ -11,7 +11,7 @@ use mir.Val.{SFits, toZ, ofZ, hbits}
 use mir.ValLaws.{toZ-ofZ}
 use Rattle.asking.specs.Bytes.{bitsOf}
 use Rattle.kinds.proofs.Signed.{down, widened}
-use Rattle.encoding.specs.Signed.{bitsUpTo}
+use Rattle.puts.specs.Signed.{bitsUpTo}
 
 -- the bits of a signed number are those in a width whose largest number is 2 ^ w - 1
 pub bits-of : (w : ℕ) (z : ℤ) → bitsUpTo (2 ^ w - 1) z ≡ bitsOf w z

@@ -1,10 +1,8 @@
-// Texts and numbers put into a buffer.
+// Texts and numbers put into a buffer, and the bits that a signed number is put as.
 ghost use mathlib.Core.Path.{_≡_};
-ghost use Prim.Native.Nat.{_+_, _≤_};
-ghost use lib.ListN.{length};
 ghost use Rattle.asking.specs.Bytes.{bigBytes};
-ghost use Rattle.sim0mq.specs.Table.{placed};
-ghost use Rattle.encoding.specs.Placing.{numberText, putIn};
+ghost use Rattle.puts.specs.Placing.{numberText, putIn};
+ghost use Rattle.puts.specs.Signed.{bitsUpTo};
 
 // The bytes of `text` in `out` from `at` on, where there is room for them.
 pub fn put(text: &[u8], out: &mut [u8], at: usize)
@@ -19,11 +17,16 @@ pub fn put(text: &[u8], out: &mut [u8], at: usize)
     bytes::copy(text, &mut out[at..]);
 }
 
-// The n bytes that x is written in, the first weighing most, in `out` from `at` on.
-pub(crate) fn put_big(out: &mut [u8], at: usize, n: usize, x: u64)
-    requires { ⌜ at + n ≤ length (now out) ⌝ }
-    ensures { λ _. ⌜ now (out .exit) ≡ placed (now (out .entry)) at (bigBytes n x) ⌝ }
+// The n bytes that x is written in, the first weighing most, in `out` from `at` on, where there is room for them.
+pub fn put_big(out: &mut [u8], at: usize, n: usize, x: u64)
+    ensures { λ _. ⌜ now (out .exit) ≡ putIn (now (out .entry)) at (bigBytes n x) ⌝ }
 {
+    if out.len() < at {
+        return;
+    }
+    if out.len() - at < n {
+        return;
+    }
     let mut left = n;
     let mut rest = x;
     while 0 < left {
@@ -45,4 +48,19 @@ pub fn put_number(out: &mut [u8], at: usize, code: u8, n: usize, x: u64)
     }
     out[at] = code;
     put_big(out, at + 1, n, x);
+}
+
+// The bits of z in a width whose largest number is `most`; 0 where that width has none for it.
+pub fn bits(z: i64, most: u64) -> u64
+    ensures { λ r. ⌜ r ≡ bitsUpTo most z ⌝ }
+{
+    if 0 <= z {
+        return z as u64;
+    }
+    let down = -1 - z;
+    let below = down as u64;
+    if most < below {
+        return 0;
+    }
+    most - below
 }

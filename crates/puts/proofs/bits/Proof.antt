@@ -2,9 +2,9 @@
 use native.Mathlib.Omega.{arith}
 use mir.Syntax.{w64}
 use Rattle.kinds.proofs.Signed.{up, down, down-fits}
-use Rattle.encoding.proofs.SignedLaws.{bits-up, bits-down, bits-none}
-use Rattle.encoding.proofs.signed.bits.Statement.{statement}
-use Rattle.encoding.proofs.signed.bits.Tie as tie
+use Rattle.puts.proofs.SignedLaws.{bits-up, bits-down, bits-none}
+use Rattle.puts.proofs.bits.Statement.{statement}
+use Rattle.puts.proofs.bits.Tie as tie
 
 cast-result : tie.Need-cast-result
 cast-result c = up w64 (c .before .args .z) (c .before .fits .z) (c .if1 .taken)
