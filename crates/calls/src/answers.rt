@@ -2,8 +2,8 @@
 // the call may not change and did gets a line too, and so does a refused call that hands back another state than it has to.
 use copies::fault;
 use lines::part;
-use listing::number;
-use listing::put;
+use pieces::number;
+use pieces::put;
 use sim0mq::Judged;
 use sim0mq::Refusal;
 use writing::Writer;

@@ -12,7 +12,7 @@ use lines::signed::signed;
 use lines::spaced;
 use lines::starts;
 use lines::tokens;
-use listing::put;
+use pieces::put;
 use writing::CountType;
 use writing::Writer;
 

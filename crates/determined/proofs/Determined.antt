@@ -77,8 +77,8 @@ use Rattle.exports.proofs.sim0mq_open.Reads as c-open
 use Rattle.exports.proofs.sim0mq_add.Reads as c-add
 use Rattle.exports.proofs.sim0mq_add_scalar.Reads as c-add-scalar
 use Rattle.exports.proofs.sim0mq_close.Reads as c-close
-use Rattle.listing.proofs.put.Reads as put
-use Rattle.listing.proofs.number.Reads as decimal
+use Rattle.pieces.proofs.put.Reads as put
+use Rattle.pieces.proofs.number.Reads as decimal
 use Rattle.listing.proofs.listing.Reads as listing
 use Rattle.listing.proofs.first_line.Reads as first-line
 
@@ -389,7 +389,7 @@ c-close-result = equated c-close.Post (λ κs z e. z) _ (λ κs a z e p. p .0)
 pub c-close-answer : Determines c-close.Post (λ κs z e. now (e .1 .1 .1 .1 .0))
 c-close-answer = equated c-close.Post (λ κs z e. now (e .1 .1 .1 .1 .0)) _ (λ κs a z e p. p .1)
 
--- The calls of crate listing.
+-- The calls of crate pieces.
 pub put-result : Determines put.Post (λ κs z e. z)
 put-result = equated put.Post (λ κs z e. z) _ (λ κs a z e p. p .0)
 
@@ -402,6 +402,7 @@ decimal-result = equated decimal.Post (λ κs z e. z) _ (λ κs a z e p. p .0)
 pub decimal-out : Determines decimal.Post (λ κs z e. now (e .1 .0))
 decimal-out = equated decimal.Post (λ κs z e. now (e .1 .0)) _ (λ κs a z e p. p .1)
 
+-- The calls of crate listing.
 pub listing-result : Determines listing.Post (λ κs z e. z)
 listing-result = equated listing.Post (λ κs z e. z) _ (λ κs a z e p. p .1 .0)
 

@@ -2,7 +2,7 @@
 use crate::find;
 use crate::number;
 use crate::part;
-use listing::put;
+use pieces::put;
 
 // Where a token of a line ends, and the message's length after it: past the message's room where the token is not understood or does not fit.
 struct Step {

@@ -1,4 +1,3 @@
 pub mod PutCases
-pub mod DecimalCases
 pub mod Front
 pub mod Examples

@@ -7,10 +7,12 @@ use mathlib.Core.Bool.{Bool, true, false, cond}
 use mathlib.Core.List.{List, [], _∷_, _++_, append-assoc, flatMap}
 use lib.Dec.{leb}
 use lib.ListN.{length, drop, length-append, length-drop}
-use lib.Seq.{paste, length-paste, take-append-seam, take-length, drop-append-add, drop-drop}
-use borrow.Author.Tests.{le-leb, lt-leb, leb-true, leb-false}
+use lib.Seq.{take-append-seam, take-length, drop-append-add, drop-drop}
+use borrow.Author.Tests.{lt-leb, leb-true, leb-false}
 use Rattle.sim0mq.specs.Allowed.{joined}
-use Rattle.listing.specs.Put.{placeAfter, withText, Buffer, buffer, putAll, outAfter, bytesBefore, bytesOf}
+use Rattle.pieces.specs.Put.{placeAfter, withText}
+use Rattle.pieces.proofs.PutCases.{with-fits, with-length}
+use Rattle.listing.specs.Put.{Buffer, buffer, putAll, outAfter, bytesBefore, bytesOf}
 
 -- no text; and a text that was put, then others
 pub put-none : (b : Buffer) → b ≡ putAll b []
@@ -27,24 +29,6 @@ pub put-append : (b : Buffer) (ss ts : List (List ℕ)) → putAll b (ss ++ ts) 
 unfolding putAll
 put-append b [] ts = refl
 put-append b (s ∷ ss) ts = put-append (buffer (withText (b .out) (b .place) s) (placeAfter (b .out) (b .place) s)) ss ts
-
--- a text that fits, and one that does not
-pub with-fits : (out : List ℕ) (from : ℕ) (t : List ℕ) → from + length t ≤ length out → withText out from t ≡ paste out from t (length t)
-unfolding withText
-with-fits out from t h = rw (le-leb (from + length t) (length out) h)
-
-pub with-over : (out : List ℕ) (from : ℕ) (t : List ℕ) → length out < from + length t → withText out from t ≡ out
-unfolding withText
-with-over out from t h = rw (lt-leb (from + length t) (length out) h)
-
-with-length : (out : List ℕ) (from : ℕ) (t : List ℕ) → length (withText out from t) ≡ length out
-with-length out from t = go (leb (from + length t) (length out)) refl
-  where
-    go : (b : Bool) → leb (from + length t) (length out) ≡ b → length (withText out from t) ≡ length out
-    go true e =
-        let h : from + length t ≤ length out = leb-true _ _ e in
-        ap length (with-fits out from t h) ∙ length-paste out from t (length t) h (omega arith)
-    go false e = ap length (with-over out from t (leb-false _ _ e))
 
 -- the buffer keeps its length
 put-length : (out : List ℕ) (from : ℕ) (ts : List (List ℕ)) → length (putAll (buffer out from) ts .out) ≡ length out

@@ -1,19 +1,11 @@
--- What putting texts into a buffer does: one text, and one text after the other. Assumes nothing.
-use Prim.Native.Nat.{ℕ, _+_, min}
+-- What putting texts into a buffer does, one text after the other. Assumes nothing.
+use Prim.Native.Nat.{ℕ}
 use mathlib.Core.Bool.{cond}
 use mathlib.Core.List.{List, [], _∷_}
 use lib.Dec.{leb}
 use lib.ListN.{length}
-use lib.Seq.{paste}
 use Rattle.sim0mq.specs.Allowed.{joined}
-
--- the place after a text put from `from` on: one past the end of `out` where the text does not fit
-unfoldable pub placeAfter : List ℕ → ℕ → List ℕ → ℕ
-placeAfter out from text = min (from + length text) (length out + 1)
-
--- `out` with a text put from `from` on: as it was where the text does not fit
-unfoldable pub withText : List ℕ → ℕ → List ℕ → List ℕ
-withText out from text = cond (leb (from + length text) (length out)) (paste out from text (length text)) out
+use Rattle.pieces.specs.Put.{placeAfter, withText}
 
 -- a buffer, and the place in it where the next text goes
 pub record Buffer : Type 0 where

@@ -1,12 +1,11 @@
 -- The text of an answer (01, "Examples"): its pieces in order, each a string of bytes. Assumes nothing.
-use Prim.Native.Nat.{ℕ, zero, suc, _*_, _^_}
+use Prim.Native.Nat.{ℕ, zero, suc, _*_}
 use Prim.Native.Char.{code}
 use Prim.Native.String.{String, [] as done, _∷_ as _then_}
 use mathlib.Core.Bool.{cond}
 use mathlib.Core.List.{List, [], _∷_, _++_}
-use lib.Dec.{leb}
 use lib.ListN.{length, take, drop}
-use Rattle.io.specs.Digits.{digits}
+use Rattle.pieces.specs.Decimal.{decimal}
 use Rattle.sim0mq.specs.Table.{rowSize}
 use Rattle.sim0mq.specs.Message.{enough, table as tableOf}
 use Rattle.sim0mq.specs.declared.Refusal.{Refusal}
@@ -18,15 +17,6 @@ use Rattle.reading.specs.declared.Reading.the-variants.{Accepted, Refused}
 abbrev pub ascii : String → List ℕ
 ascii done = []
 ascii (c then s) = code c ∷ ascii s
-
--- how many decimal digits n has, of at most k + 1
-unfoldable pub places : ℕ → ℕ → ℕ
-places zero n = 1
-places (suc k) n = cond (leb (10 ^ suc k) n) (suc (suc k)) (places k n)
-
--- n in decimal, with no zeros in front; a number of 64 bits has at most 20 digits
-unfoldable pub decimal : ℕ → List ℕ
-decimal n = digits 10 (places 19 n) n
 
 -- the line of an accepted message
 unfoldable pub acceptedText : Found → List (List ℕ)

@@ -1,8 +1,9 @@
 // What reading answered, as text: the lines that document 01 shows under "Examples".
 //
-// The text is put into a lent buffer, piece after piece. A piece that does not fit leaves the place past the buffer, and so does each piece after
-// it, so that one test at the end tells whether the whole text is there. The longest text has a first line of at most 72 bytes and 256 rows of at
-// most 59, so 16,384 bytes are always enough.
+// The text is put into a lent buffer by the calls of `pieces`. The longest text has a first line of at most 72 bytes and 256 rows of at most 59, so
+// 16,384 bytes are always enough.
+use pieces::number;
+use pieces::put;
 use reading::Found;
 use reading::Reading;
 use sim0mq::Refusal;
@@ -11,8 +12,8 @@ ghost use Prim.Native.Nat.{_*_, _≤_};
 ghost use lib.ListN.{length};
 ghost use Rattle.io.specs.Counts.{Counts};
 ghost use Rattle.sim0mq.specs.Table.{rowSize};
-ghost use Rattle.listing.specs.Put.{placeAfter, withText, buffer, putAll, outAfter, bytesBefore, bytesOf};
-ghost use Rattle.listing.specs.Text.{decimal, acceptedText, refusedText, rowText, rowsText, lineText, wholeText};
+ghost use Rattle.listing.specs.Put.{buffer, putAll, outAfter, bytesBefore, bytesOf};
+ghost use Rattle.listing.specs.Text.{acceptedText, refusedText, rowText, rowsText, lineText, wholeText};
 
 // How many table numbers a field has.
 const ROW: usize = 5;
@@ -123,33 +124,4 @@ fn wide(x: u32) -> u64
     ensures { λ r. ⌜ r ≡ x ⌝ }
 {
     x as u64
-}
-
-// The place after n's decimal digits, put from `from` on.
-pub fn number(n: u64, out: &mut [u8], from: usize) -> usize
-    ensures { λ r. ⌜ r ≡ placeAfter (now (out .entry)) from (decimal n) ⌝ }
-    ensures { λ _. ⌜ now (out .exit) ≡ withText (now (out .entry)) from (decimal n) ⌝ }
-{
-    let mut digits = [0u8; 20];
-    let k = io::decimal(n, &mut digits);
-    put(&digits[..k], out, from)
-}
-
-// The place after `text`, put from `from` on; one past the end of `out`, which is left as it was, where the text does not fit.
-pub fn put(text: &[u8], out: &mut [u8], from: usize) -> usize
-    ensures { λ r. ⌜ r ≡ placeAfter (now (out .entry)) from (now (text .entry)) ⌝ }
-    ensures { λ _. ⌜ now (out .exit) ≡ withText (now (out .entry)) from (now (text .entry)) ⌝ }
-{
-    if out.len() < from {
-        return out.len() + 1;
-    }
-    if out.len() - from < text.len() {
-        return out.len() + 1;
-    }
-    let mut i = 0;
-    while i < text.len() {
-        out[from + i] = text[i];
-        i += 1;
-    }
-    from + text.len()
 }

@@ -3,8 +3,8 @@ use asking::scalars::Value;
 use items::numbers::wide;
 use kinds::Mark;
 use kinds::Scalar;
-use listing::number;
-use listing::put;
+use pieces::number;
+use pieces::put;
 use reading::Reading;
 
 // The length of what asking `message` for field k answers, put at the front of `out`.

@@ -255,8 +255,8 @@ fn room(line: &[u8], run: Run) -> Run {
 
 // `gives TEXT`: one more line of the text that is expected.
 fn gives(line: &[u8], run: Run, expected: &mut [u8]) -> Run {
-    let mut at = listing::put(part(line, 6, line.len()), expected, run.expects);
-    at = listing::put(b"\n", expected, at);
+    let mut at = pieces::put(part(line, 6, line.len()), expected, run.expects);
+    at = pieces::put(b"\n", expected, at);
     if expected.len() < at {
         return lost(run);
     }

@@ -8,8 +8,10 @@ use mathlib.Core.List.{List, [], _∷_, _++_}
 use lib.ListN.{length, getD, drop, drop-of-length-le}
 use lib.Seq.{drop-cons}
 use borrow.Author.Needs.{needs}
-use Rattle.listing.specs.Put.{placeAfter, withText, buffer, putAll}
-use Rattle.listing.specs.Text.{ascii, decimal, numbersText, rowText}
+use Rattle.pieces.specs.Put.{placeAfter, withText}
+use Rattle.pieces.specs.Decimal.{decimal}
+use Rattle.listing.specs.Put.{buffer, putAll}
+use Rattle.listing.specs.Text.{ascii, numbersText, rowText}
 use Rattle.listing.proofs.PutCases.{put-none, put-then}
 use Rattle.listing.proofs.row.Statement.{statement}
 use Rattle.listing.proofs.row.Tie as tie

@@ -1,12 +1,12 @@
--- listing::number meets its contract: the digits that io::decimal writes are the number in decimal, and `put` puts them.
+-- pieces::number meets its contract: the digits that io::decimal writes are the number in decimal, and `put` puts them.
 -- Assumes nothing.
 use native.Mathlib.Omega.{arith}
 use mathlib.Core.Path.{_∙_, ap}
 use borrow.Author.Needs.{needs}
-use Rattle.listing.specs.Put.{placeAfter, withText}
-use Rattle.listing.proofs.DecimalCases.{decimal-eq}
-use Rattle.listing.proofs.number.Statement.{statement}
-use Rattle.listing.proofs.number.Tie as tie
+use Rattle.pieces.specs.Put.{placeAfter, withText}
+use Rattle.pieces.proofs.DecimalCases.{decimal-eq}
+use Rattle.pieces.proofs.number.Statement.{statement}
+use Rattle.pieces.proofs.number.Tie as tie
 
 decimal-requires : tie.Need-decimal-requires
 decimal-requires c κs = search needs

@@ -8,7 +8,7 @@ use mathlib.Core.Bool.{Bool, true, false}
 use lib.Dec.{leb}
 use borrow.Author.Tests.{le-leb, lt-leb, leb-true, leb-false}
 use Rattle.io.specs.Digits.{digits, Fewest}
-use Rattle.listing.specs.Text.{places, decimal}
+use Rattle.pieces.specs.Decimal.{places, decimal}
 
 -- one digit more than k + 1, or no more
 places-over : (k n : ℕ) → 10 ^ suc k ≤ n → places (suc k) n ≡ suc (suc k)

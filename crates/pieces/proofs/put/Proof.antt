@@ -1,4 +1,4 @@
--- listing::put meets its contract. The invariant: after i turns the buffer is what it was with the first i bytes of the text pasted in.
+-- pieces::put meets its contract. The invariant: after i turns the buffer is what it was with the first i bytes of the text pasted in.
 -- Assumes nothing.
 use Prim.Native.Nat.{ℕ, _+_, _-_, _<_, _≤_}
 use native.Mathlib.Omega.{arith}
@@ -8,10 +8,10 @@ use mathlib.Core.List.{List}
 use lib.ListN.{length, getD, set}
 use lib.Seq.{paste, paste-zero, paste-suc}
 use borrow.Author.Needs.{needs}
-use Rattle.listing.specs.Put.{placeAfter, withText}
-use Rattle.listing.proofs.PutCases.{with-fits, with-over}
-use Rattle.listing.proofs.put.Statement.{statement}
-use Rattle.listing.proofs.put.Tie as tie
+use Rattle.pieces.specs.Put.{placeAfter, withText}
+use Rattle.pieces.proofs.PutCases.{with-fits, with-over}
+use Rattle.pieces.proofs.put.Statement.{statement}
+use Rattle.pieces.proofs.put.Tie as tie
 
 -- a turn puts one byte more
 turn : (out₀ out : List ℕ) (from : ℕ) (text : List ℕ) (i : ℕ) → out ≡ paste out₀ from text i → from + i < length out₀ → i < length text

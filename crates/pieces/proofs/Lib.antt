@@ -1,0 +1,2 @@
+pub mod PutCases
+pub mod DecimalCases
