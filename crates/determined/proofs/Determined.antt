@@ -51,6 +51,7 @@ use Rattle.kinds.proofs.double_of.Reads as double-of
 use Rattle.kinds.proofs.float_with.Reads as float-with
 use Rattle.kinds.proofs.double_with.Reads as double-with
 use Rattle.blanking.proofs.blank.Reads as blank
+use Rattle.opening.proofs.write_header.Reads as write-header
 use Rattle.writing.proofs.Writer.open.Reads as opening
 use Rattle.writing.proofs.Writer.add.Reads as add
 use Rattle.writing.proofs.Writer.add_scalar.Reads as add-scalar
@@ -270,6 +271,13 @@ put-number-out = equated put-number.Post (λ κs z e. now (e .0)) _ (λ κs a z 
 -- The calls of crate encoding.
 pub encode-result : Determines encode.Post (λ κs z e. z)
 encode-result = equated encode.Post (λ κs z e. z) _ (λ κs a z e p. p)
+
+-- The calls of crate opening.
+pub write-header-result : Determines write-header.Post (λ κs z e. z)
+write-header-result = determined write-header.Post (λ κs z e. z) (λ κs. judged) (λ κs. judged-apart) _ (λ κs a z e p. p .0)
+
+pub write-header-out : Determines write-header.Post (λ κs z e. now (e .1 .1 .1 .1 .1 .0))
+write-header-out = equated write-header.Post (λ κs z e. now (e .1 .1 .1 .1 .1 .0)) _ (λ κs a z e p. p .1)
 
 -- The calls of crate writing.
 pub opening-result : Determines opening.Post (λ κs z e. z)

@@ -4,7 +4,8 @@ use mathlib.Core.Path.{_≡_, ap, _∙_}
 use mathlib.Core.List.{List}
 use lib.IntN.{ℤ}
 use lib.ListN.{length}
-use Rattle.writing.specs.Writing.{Opening, asksFor, opening, afterOpening, Given, adding, afterAdding, closing, afterClosing, bufferAfter}
+use Rattle.opening.specs.Opening.{bufferAfter}
+use Rattle.writing.specs.Writing.{Opening, asksFor, opening, afterOpening, Given, adding, afterAdding, closing, afterClosing}
 use Rattle.writing.specs.declared.CountType.{CountType}
 use Rattle.writing.specs.declared.Writer.{Writer}
 use Rattle.writing.specs.declared.Wrote.{Wrote}

@@ -15,7 +15,8 @@ use Rattle.sim0mq.specs.Message.{limit}
 use Rattle.sim0mq.specs.Allowed.{Each, none, more, FieldParts, fieldBytes, IsField}
 use Rattle.sim0mq.proofs.Answers.{bind-fine, guarded, and-true}
 use Rattle.sim0mq.specs.Table.{placed}
-use Rattle.writing.specs.Writing.{Opening, headerText, opening, afterOpening, Given, fieldGiven, takes, adding, afterAdding, closing, afterClosing, bufferAfter}
+use Rattle.opening.specs.Opening.{bufferAfter}
+use Rattle.writing.specs.Writing.{Opening, headerText, opening, afterOpening, Given, fieldGiven, takes, adding, afterAdding, closing, afterClosing}
 use Rattle.returning.specs.History.{Point, adds, closes, givenAfter, closingsAfter, next, History, opened, called, bytesOf}
 use Rattle.returning.specs.Promises.{Holds}
 use Rattle.writing.specs.declared.Writer.{Writer}

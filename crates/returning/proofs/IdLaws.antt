@@ -14,7 +14,7 @@ use Rattle.sim0mq.proofs.Answers.{guarded}
 use Rattle.sim0mq.proofs.Stands.{Stands, stands-to, stands-left, stands-right, stands-nil, stands-join}
 use Rattle.sim0mq.proofs.FieldLaws.{fieldAt, after-at}
 use Rattle.sim0mq.proofs.HeaderLaws.{frame-complete, frame-sound}
-use Rattle.writing.specs.Writing.{idsFrom}
+use Rattle.opening.specs.Opening.{idsFrom}
 
 -- every run of id frames is taken
 pub ids-complete : {s : List ℕ} {at : ℕ} (fs : List FieldParts) → Each (IsFrame idCodes) fs → Stands s at (flatMap fieldBytes fs)

@@ -18,7 +18,8 @@ use Rattle.sim0mq.proofs.Stands.{stands-self, stands-same}
 use Rattle.sim0mq.proofs.Rows.{allPass, count-scalar}
 use Rattle.asking.specs.Bytes.{bigBytes, bitsOf}
 use Rattle.puts.specs.Placing.{numberText}
-use Rattle.writing.specs.Writing.{Opening, countCode, holds, headerWith, headerText, idsFrom, fitting, opening}
+use Rattle.opening.specs.Opening.{holds, headerWith, idsFrom, fitting, headerGiven}
+use Rattle.writing.specs.Writing.{Opening, countCode, headerText, opening}
 use Rattle.returning.proofs.NumberLaws.{numberParts, number-back, first-byte}
 use Rattle.returning.proofs.FrameLaws.{oneNumber, number-frame}
 use Rattle.returning.proofs.JoinLaws.{flat-append}
@@ -144,7 +145,7 @@ four o (a ∷ b ∷ c ∷ []) n are ids stat kind many held room text is short f
 four o (a ∷ b ∷ c ∷ d ∷ f ∷ fs) n are ids stat kind many held room text is short fits = absurd (omega arith)
 
 pub opening-sound : (o : Opening) (room : ℕ) (text : List ℕ) → opening o room ≡ fine text → Opened o room text
-unfolding opening
+unfolding headerGiven
 opening-sound o room text q =
     let a = bind-fine (idsFrom (o .ids) 4 0) _ q in
     let b = guarded (statusTaken (o .status)) _ _ _ (a .2) in

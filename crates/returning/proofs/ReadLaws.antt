@@ -27,7 +27,8 @@ use Rattle.asking.proofs.BackLaws.{part-back}
 use Rattle.asking.proofs.Promises.{asking-agrees-with-reading, value-is-its-bytes}
 use Rattle.encoding.specs.Scalars.{scalarText, writable, scalarGiven}
 use Rattle.puts.specs.Placing.{numberText}
-use Rattle.writing.specs.Writing.{Opening, countCode, headerWith, headerText, Given, scalar, fieldGiven}
+use Rattle.opening.specs.Opening.{headerWith}
+use Rattle.writing.specs.Writing.{Opening, countCode, headerText, Given, scalar, fieldGiven}
 use Rattle.returning.specs.History.{Point, Finished, bytesOf}
 use Rattle.returning.specs.Promises.{Held, framePlace, SaysHeader, ReadsBack}
 use Rattle.puts.proofs.PlaceLaws.{big-length}

@@ -18,7 +18,8 @@ use Rattle.sim0mq.proofs.MessageLaws.{cutOf, message-sound}
 use Rattle.asking.specs.Promises.{ownBytes}
 use Rattle.asking.proofs.BackLaws.{part-back}
 use Rattle.sim0mq.specs.Table.{placed}
-use Rattle.writing.specs.Writing.{Opening, headerText, opening, afterOpening, Given, encoded, fieldGiven, takes, fitting, adding, afterAdding, closing, bufferAfter}
+use Rattle.opening.specs.Opening.{fitting, bufferAfter}
+use Rattle.writing.specs.Writing.{Opening, headerText, opening, afterOpening, Given, encoded, fieldGiven, takes, adding, afterAdding, closing}
 use Rattle.returning.specs.History.{Point, start, adds, closes, givenAfter, next, afterCalls}
 use Rattle.returning.specs.Promises.{framePlace, ownOpening, ownFields, rewritten, Rewrites, Rewriting-gives-the-same}
 use Rattle.writing.specs.declared.Writer.{Writer}

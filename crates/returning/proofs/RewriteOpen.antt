@@ -22,7 +22,8 @@ use Rattle.kinds.specs.Kinds.{twos}
 use Rattle.asking.proofs.ByteLaws.{bytes-back, big-fits, bits-back}
 use Rattle.asking.proofs.BackLaws.{part-back, one-byte}
 use Rattle.puts.specs.Placing.{numberText}
-use Rattle.writing.specs.Writing.{Opening, asksFor, countCode, holds, headerWith, headerText, idsFrom, fitting, opening}
+use Rattle.opening.specs.Opening.{holds, headerWith, idsFrom, fitting, headerGiven}
+use Rattle.writing.specs.Writing.{Opening, asksFor, countCode, headerText, opening}
 use Rattle.writing.specs.declared.CountType.the-variants.{Stated}
 use Rattle.returning.proofs.FrameLaws.{oneNumber, frame-text}
 use Rattle.returning.proofs.IdLaws.{ids-complete}
@@ -32,7 +33,7 @@ use Rattle.returning.proofs.JoinLaws.{flat-append}
 opening-fine : (o : Opening) (room end : ℕ) → idsFrom (o .ids) 4 0 ≡ fine end → statusTaken (o .status) ≡ true
     → among (countCode (o .kind)) countCodes ≡ true → fieldsTaken (o .fields) ≡ true → holds (countCode (o .kind)) (o .fields) ≡ true
     → length (headerText o) ≤ limit → length (headerText o) ≤ room → opening o room ≡ fine (headerText o)
-unfolding opening fitting
+unfolding headerGiven fitting
 opening-fine o room end ids stat kind many held short fits =
     simp (
       ids,

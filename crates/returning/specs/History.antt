@@ -7,7 +7,8 @@ use mathlib.Core.List.{List, [], _∷_, _++_}
 use lib.ListN.{length, take}
 use Rattle.sim0mq.specs.Answer.{Answer, fine, refused}
 use Rattle.encoding.specs.Scalars.{scalarText}
-use Rattle.writing.specs.Writing.{Opening, opening, afterOpening, Given, encoded, scalar, adding, afterAdding, closing, afterClosing, bufferAfter}
+use Rattle.opening.specs.Opening.{bufferAfter}
+use Rattle.writing.specs.Writing.{Opening, opening, afterOpening, Given, encoded, scalar, adding, afterAdding, closing, afterClosing}
 use Rattle.writing.specs.declared.Writer.{Writer}
 
 -- A point of a history: the state last handed back and the buffer then; and what has been granted: the fields that were added, in order, and how many

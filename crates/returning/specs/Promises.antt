@@ -19,7 +19,8 @@ use Rattle.kinds.specs.Kinds.{twos}
 use Rattle.asking.specs.Scalars.{value}
 use Rattle.kinds.specs.declared.Scalar.{Scalar}
 use Rattle.kinds.specs.declared.Scalar.the-variants.{Byte, Short, Int, Long, Float, Double, Boolean, Char8, Char16, FloatUnit, DoubleUnit, NotNumber}
-use Rattle.writing.specs.Writing.{Opening, countCode, headerText, opening, afterOpening, Given, encoded, scalar, adding, afterAdding, closing, afterClosing, bufferAfter}
+use Rattle.opening.specs.Opening.{bufferAfter}
+use Rattle.writing.specs.Writing.{Opening, countCode, headerText, opening, afterOpening, Given, encoded, scalar, adding, afterAdding, closing, afterClosing}
 use Rattle.returning.specs.History.{Point, start, adds, closes, History, afterCalls, Finished, bytesOf}
 use Rattle.writing.specs.declared.CountType.the-variants.{Stated}
 use Rattle.writing.specs.declared.Writer.{Writer}

@@ -15,7 +15,8 @@ use Rattle.reading.proofs.AnswerCases.{steps-refused, steps-accepted}
 use Rattle.kinds.specs.declared.Scalar.{Scalar}
 use Rattle.encoding.specs.Scalars.{scalarText, writable, scalarGiven}
 use Rattle.sim0mq.specs.Table.{placed}
-use Rattle.writing.specs.Writing.{Given, encoded, scalar, fieldGiven, takes, fitting, adding, closing, afterAdding, bufferAfter}
+use Rattle.opening.specs.Opening.{fitting, bufferAfter}
+use Rattle.writing.specs.Writing.{Given, encoded, scalar, fieldGiven, takes, adding, closing, afterAdding}
 use Rattle.encoding.specs.Encoded.{encodedAs}
 use Rattle.encoding.specs.declared.scalars.Encoded.{Encoded}
 use Rattle.writing.specs.declared.Writer.{Writer}

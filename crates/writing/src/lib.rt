@@ -3,18 +3,15 @@ ghost use mathlib.Core.Path.{_≡_};
 ghost use lib.ListN.{length};
 ghost use mathlib.Core.Bool.{true};
 ghost use Rattle.sim0mq.specs.Answer.{refused as refusal};
-ghost use Rattle.writing.specs.Writing.{asksFor, opening, afterOpening, encoded, scalar, takes as takesField, fitting, adding, afterAdding, closing, afterClosing, bufferAfter};
-use crate::frames::code_of;
-use crate::frames::judge_opening;
-use crate::frames::put_header;
+ghost use Rattle.opening.specs.Opening.{fitting, bufferAfter};
+ghost use Rattle.writing.specs.Writing.{asksFor, countCode, opening, afterOpening, encoded, scalar, takes as takesField, adding, afterAdding, closing, afterClosing};
 use encoding::scalars::encode;
 use kinds::Scalar;
+use opening::write_header;
 use payload::payload;
 use puts::put;
 use sim0mq::Judged;
 use sim0mq::Refusal;
-
-mod frames;
 
 // The type code of the declared count: not stated, which is 1, or stated.
 pub enum CountType {
@@ -34,6 +31,16 @@ pub struct Writer {
 pub struct Wrote {
     pub said: Judged,
     pub writer: Writer,
+}
+
+// The type code of the declared count.
+fn code_of(kind: CountType) -> u8
+    ensures { λ r. ⌜ r ≡ countCode kind ⌝ }
+{
+    match kind {
+        CountType::Unstated => 1,
+        CountType::Stated(code) => code,
+    }
 }
 
 // A refusal of this number at this place, with the state that was taken.
@@ -102,7 +109,7 @@ impl Writer {
         ensures written { λ _. ⌜ now (out .exit) ≡ bufferAfter (now (out .entry)) 0 (opening (asksFor (now (ids .entry)) number status fields kind) (length (now (out .entry)))) ⌝ }
     {
         let code = code_of(kind);
-        match judge_opening(ids, status, code, fields, out.len()) {
+        match write_header(ids, number, status, code, fields, out) {
             Judged::Refused(r) => Wrote {
                 said: Judged::Refused(r),
                 writer: Writer {
@@ -112,18 +119,15 @@ impl Writer {
                     closed: true,
                 },
             },
-            Judged::Accepted(n) => {
-                put_header(ids, number, status, code, fields, out);
-                Wrote {
-                    said: Judged::Accepted(n),
-                    writer: Writer {
-                        written: n,
-                        declared: fields,
-                        added: 0,
-                        closed: false,
-                    },
-                }
-            }
+            Judged::Accepted(n) => Wrote {
+                said: Judged::Accepted(n),
+                writer: Writer {
+                    written: n,
+                    declared: fields,
+                    added: 0,
+                    closed: false,
+                },
+            },
         }
     }
 

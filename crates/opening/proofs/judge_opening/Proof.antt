@@ -2,9 +2,9 @@
 use borrow.Author.Needs.{needs}
 use mathlib.Core.Path.{sym, ap, _∙_}
 use Rattle.sim0mq.specs.Views.{judged}
-use Rattle.writing.proofs.OpenCases.{opening-stop, opening-numbers}
-use Rattle.writing.proofs.frames.judge_opening.Statement.{statement}
-use Rattle.writing.proofs.frames.judge_opening.Tie as tie
+use Rattle.opening.proofs.HeaderCases.{opening-stop, opening-numbers}
+use Rattle.opening.proofs.judge_opening.Statement.{statement}
+use Rattle.opening.proofs.judge_opening.Tie as tie
 
 id-frames-requires : tie.Need-id-frames-requires
 id-frames-requires c κs = search needs

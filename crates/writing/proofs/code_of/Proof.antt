@@ -2,8 +2,8 @@
 use borrow.Author.Needs.{needs}
 use mathlib.Core.Path.{sym, ap}
 use Rattle.writing.specs.Writing.{countCode}
-use Rattle.writing.proofs.frames.code_of.Statement.{statement}
-use Rattle.writing.proofs.frames.code_of.Tie as tie
+use Rattle.writing.proofs.code_of.Statement.{statement}
+use Rattle.writing.proofs.code_of.Tie as tie
 
 enum-told : tie.Need-enum-told
 enum-told c = search needs

@@ -1,12 +1,11 @@
-// The opening of a message: its judge, and its header.
+// The opening of a message: it is judged whole, and then its header is put at the front of a lent buffer.
 ghost use mathlib.Core.Path.{_≡_};
 ghost use Prim.Native.Nat.{_≤_};
 ghost use lib.ListN.{length};
 ghost use Rattle.sim0mq.specs.Views.{judged};
 ghost use Rattle.sim0mq.specs.Table.{placed};
-ghost use Rattle.writing.specs.Writing.{idsFrom, countCode, headerWith};
-ghost use Rattle.writing.specs.Judges.{numbersJudged, openingJudged};
-use crate::CountType;
+ghost use Rattle.opening.specs.Opening.{idsFrom, headerWith, headerGiven, lengthOf, bufferAfter};
+ghost use Rattle.opening.specs.Judges.{numbersJudged, openingJudged};
 use header::id;
 use items::numbers::wide;
 use payload::fields::Fielded;
@@ -18,13 +17,25 @@ use tables::width;
 
 const FRAME_0: [u8; 10] = [9, 0, 0, 0, 5, 83, 73, 77, 48, 49];
 
-// The type code of the declared count.
-pub(crate) fn code_of(kind: CountType) -> u8
-    ensures { λ r. ⌜ r ≡ countCode kind ⌝ }
+// The header of a message, judged and put at the front of `out`: its length. The ids are four encoded frames, and the declared number of fields is a
+// number of type `code`. Refused, `out` is as it was.
+pub fn write_header(
+    ids: &[u8],
+    number: i64,
+    status: u8,
+    code: u8,
+    fields: usize,
+    out: &mut [u8],
+) -> Judged
+    ensures answer { λ r. ⌜ judged r ≡ lengthOf (headerGiven (now (ids .entry)) number status code fields (length (now (out .entry)))) ⌝ }
+    ensures written { λ _. ⌜ now (out .exit) ≡ bufferAfter (now (out .entry)) 0 (headerGiven (now (ids .entry)) number status code fields (length (now (out .entry)))) ⌝ }
 {
-    match kind {
-        CountType::Unstated => 1,
-        CountType::Stated(code) => code,
+    match judge_opening(ids, status, code, fields, out.len()) {
+        Judged::Refused(r) => Judged::Refused(r),
+        Judged::Accepted(n) => {
+            put_header(ids, number, status, code, fields, out);
+            Judged::Accepted(n)
+        }
     }
 }
 
@@ -83,7 +94,7 @@ fn judge_numbers(n: usize, status: u8, code: u8, fields: usize, room: usize) -> 
 }
 
 // The length of the header that these ids, this status and this count ask for; or the refusal.
-pub(crate) fn judge_opening(ids: &[u8], status: u8, code: u8, fields: usize, room: usize) -> Judged
+fn judge_opening(ids: &[u8], status: u8, code: u8, fields: usize, room: usize) -> Judged
     ensures { λ r. ⌜ judged r ≡ openingJudged (now (ids .entry)) status code fields room ⌝ }
 {
     match id_frames(ids) {
@@ -93,14 +104,7 @@ pub(crate) fn judge_opening(ids: &[u8], status: u8, code: u8, fields: usize, roo
 }
 
 // The header at the front of `out`.
-pub(crate) fn put_header(
-    ids: &[u8],
-    number: i64,
-    status: u8,
-    code: u8,
-    fields: usize,
-    out: &mut [u8],
-)
+fn put_header(ids: &[u8], number: i64, status: u8, code: u8, fields: usize, out: &mut [u8])
     requires { ⌜ (code ≤ 2) × (length (headerWith (now ids) number status code fields) ≤ length (now out)) ⌝ }
     ensures { λ _. ⌜ now (out .exit) ≡ placed (now (out .entry)) 0 (headerWith (now (ids .entry)) number status code fields) ⌝ }
 {

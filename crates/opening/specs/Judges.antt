@@ -1,4 +1,4 @@
--- What the judges of an opening answer, over the definitions of the writer.
+-- What the judges of an opening answer, over its definitions.
 use Prim.Native.Nat.{ℕ, _+_}
 use mathlib.Core.Bool.{_&&_}
 use mathlib.Core.List.{List}
@@ -8,7 +8,7 @@ use Rattle.sim0mq.specs.Answer.{Answer, fine, _>>=_, _>>_, guard}
 use Rattle.sim0mq.specs.Codes.{widthOf}
 use Rattle.sim0mq.specs.Header.{countCodes, among, statusTaken, fieldsTaken}
 use Rattle.sim0mq.specs.Message.{limit}
-use Rattle.writing.specs.Writing.{idsFrom, holds}
+use Rattle.opening.specs.Opening.{idsFrom, holds}
 
 -- The length of a header whose ids have n bytes, judged after them: status (6), count type (4), count (7), length (8), room (14).
 unfoldable pub numbersJudged : ℕ → ℕ → ℕ → ℕ → ℕ → Answer ℕ

@@ -5,10 +5,10 @@ use Prim.Native.Nat.{_-_}
 use mathlib.Core.Path.{_≡_, refl, sym, ap, _∙_}
 use Rattle.sim0mq.specs.Field.{after}
 use Rattle.payload.specs.Items.{fielded}
-use Rattle.writing.specs.Writing.{idsFrom}
-use Rattle.writing.proofs.OpenCases.{ids-stop, ids-more, ids-over, ids-end, id-goes}
-use Rattle.writing.proofs.frames.id_frames.Statement.{statement}
-use Rattle.writing.proofs.frames.id_frames.Tie as tie
+use Rattle.opening.specs.Opening.{idsFrom}
+use Rattle.opening.proofs.HeaderCases.{ids-stop, ids-more, ids-over, ids-end, id-goes}
+use Rattle.opening.proofs.id_frames.Statement.{statement}
+use Rattle.opening.proofs.id_frames.Tie as tie
 
 abbrev Inv-loop : tie.InvT-loop
 Inv-loop s left₀ at₀ left at = idsFrom s left at ≡ idsFrom s 4 0

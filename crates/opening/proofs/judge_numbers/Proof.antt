@@ -6,9 +6,9 @@ use mathlib.Core.Path.{sym, ap, _∙_}
 use mathlib.Core.Logic.{⊎-elim}
 use Rattle.sim0mq.specs.Codes.{widthOf}
 use Rattle.sim0mq.proofs.Rows.{eight-wide}
-use Rattle.writing.proofs.OpenCases.{numbers-low, numbers-high, numbers-type, numbers-many, numbers-above, numbers-long, numbers-room, numbers-fine}
-use Rattle.writing.proofs.frames.judge_numbers.Statement.{statement}
-use Rattle.writing.proofs.frames.judge_numbers.Tie as tie
+use Rattle.opening.proofs.HeaderCases.{numbers-low, numbers-high, numbers-type, numbers-many, numbers-above, numbers-long, numbers-room, numbers-fine}
+use Rattle.opening.proofs.judge_numbers.Statement.{statement}
+use Rattle.opening.proofs.judge_numbers.Tie as tie
 
 refuse-requires : tie.Need-refuse-requires
 refuse-requires c κs = search needs

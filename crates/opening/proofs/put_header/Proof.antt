@@ -4,9 +4,9 @@ use mathlib.Core.Path.{ap, _∙_}
 use mir.Syntax.{w64}
 use Rattle.sim0mq.specs.Codes.{widthOf}
 use Rattle.puts.proofs.SignedLaws.{bits-are}
-use Rattle.writing.proofs.OpenCases.{header-placed}
-use Rattle.writing.proofs.frames.put_header.Statement.{statement}
-use Rattle.writing.proofs.frames.put_header.Tie as tie
+use Rattle.opening.proofs.HeaderCases.{header-placed}
+use Rattle.opening.proofs.put_header.Statement.{statement}
+use Rattle.opening.proofs.put_header.Tie as tie
 
 slice-aggregate-put : tie.Need-slice-aggregate-put
 slice-aggregate-put c = search needs
