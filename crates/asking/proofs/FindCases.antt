@@ -1,97 +1,116 @@
--- Finding field k: from a place on, the field asked for is the next one, or stands as many fields further as are left to pass.
-use Prim.Native.Nat.{ℕ, _+_, _-_, _≤_, _<_}
-use mathlib.Core.Path.{_≡_, refl, ap, sym, _∙_, subst}
-use mathlib.Core.List.{List, _∷_, map}
+-- Field k is the one whose row is kept: the fields before it are passed over, and after it there is no row left. The row tells all of the field, since its values
+-- are as many as its bytes make.
+use Prim.Native.Nat.{ℕ, zero, suc, _+_, _-_, _*_, _/_, _≤_, _<_, zero-le}
+use mathlib.Core.Path.{_≡_, refl, ap, ap₂, sym, _∙_, subst}
+use mathlib.Core.List.{List, [], _∷_, _++_, append-nil, map}
 use native.Mathlib.Omega.{arith}
-use native.Mathlib.Numerals.{add-one}
-use lib.ListN.{length, drop, length-drop, length-map}
+use native.Mathlib.Nat.{mul-div-cancel}
+use lib.ListN.{length, getD, drop, drop-of-length-le, length-map}
+use lib.Seq.{sets, sets-eq}
 use Rattle.sim0mq.specs.Answer.{Answer, fine, refused}
-use Rattle.sim0mq.specs.Field.{Field, after, outline}
+use Rattle.sim0mq.specs.Codes.{widthOf}
+use Rattle.sim0mq.specs.Field.{Field, after}
 use Rattle.sim0mq.specs.Payload.{payloadFrom, payload, moved}
-use Rattle.sim0mq.specs.Message.{limit, noTable, readingOf, reading}
-use Rattle.reading.specs.Rows.{taken}
-use Rattle.reading.proofs.RowCases.{fields-next}
-use Rattle.reading.specs.Answers.{Whole, whole}
-use Rattle.reading.proofs.AnswerCases.{reading-whole, whole-parts, part-accepted, next-within}
-use Rattle.asking.specs.Asking.{nth, asked, Findable, foundAt}
-use Rattle.asking.proofs.AskLaws.{nth-past}
+use Rattle.sim0mq.specs.Header.{Header}
+use Rattle.sim0mq.specs.Table.{row as rowOf}
+use Rattle.sim0mq.specs.Message.{noTable, reading}
+use Rattle.sim0mq.proofs.Answers.{fine-eq, not-fine}
+use Rattle.fields.proofs.FieldCases.{width-positive}
+use Rattle.payload.specs.Parts.{payloadSteps}
+use Rattle.payload.specs.Kept.{keptOne, keptAll, rowsIn, keptOf}
+use Rattle.payload.proofs.PayloadCases.{Goes, field-goes}
+use Rattle.payload.proofs.KeptCases.{rows-within, kept-before, kept-here, kept-full}
+use Rattle.payload.proofs.KeptLaws.{payload-many, front-accepted, taken-more}
+use Rattle.reading.specs.Answers.{opening}
+use Rattle.reading.proofs.AnswerCases.{reading-closed, open-within, open-refused, open-accepted}
+use Rattle.asking.specs.Asking.{nth, asked, fieldIn}
+use Rattle.asking.proofs.AskLaws.{asked-refused, asked-nth, nth-past, nth-finds}
 
--- field k of a list: the first, or one further on
-nth-first : (f : Field) (fs : List Field) (k : ℕ) → k ≡ 0 → fine f ≡ nth (f ∷ fs) k
+-- five numbers stored over five
+sets-all : (kept : List ℕ) (f : Field) → length kept ≡ 5 → sets kept 0 (rowOf f) ≡ rowOf f
+unfolding rowOf
+sets-all kept f e = sets-eq (rowOf f) kept 0 (omega arith) ∙ ap (λ (l : List ℕ). rowOf f ++ l) (drop-of-length-le kept {i = 0 + 5} (omega arith)) ∙ append-nil (rowOf f)
+
+-- with one row, nothing after field k is kept
+kept-after : (k i : ℕ) (fs : List Field) (kept : List ℕ) → k < i → keptAll 1 k i fs kept ≡ kept
+unfolding keptAll
+kept-after k i [] kept h = refl
+kept-after k i (f ∷ fs) kept h =
+    kept-after k (i + 1) fs (keptOne 1 k i f kept) (omega arith) ∙ sym (kept-full 1 k i f kept (omega arith) (omega arith))
+
+-- and nothing before it, so that its row is what is kept
+kept-nth : (k i j : ℕ) (fs : List Field) (f : Field) (kept : List ℕ) → k ≡ i + j → nth fs j ≡ fine f → keptAll 1 k i fs kept ≡ sets kept 0 (rowOf f)
+unfolding keptAll nth
+kept-nth k i j [] f kept e q = absurd (not-fine q)
+kept-nth k i zero (g ∷ fs) f kept e q =
+    let place : 5 * (i - k) ≡ 0 = omega arith in
+    kept-after k (i + 1) fs (keptOne 1 k i g kept) (omega arith)
+    ∙ sym (kept-here 1 k i g kept (omega arith) (omega arith))
+    ∙ ap (λ (p : ℕ). sets kept p (rowOf g)) place
+    ∙ ap (λ (x : Field). sets kept 0 (rowOf x)) (fine-eq q)
+kept-nth k i (suc j) (g ∷ fs) f kept e q =
+    ap (λ (l : List ℕ). keptAll 1 k (i + 1) fs l) (sym (kept-before 1 k i g kept (omega arith))) ∙ kept-nth k (i + 1) j fs f kept (omega arith) q
+
+-- field k of an accepted payload stands somewhere in it
+nth-goes : (s : List ℕ) (n at k : ℕ) (fs : List Field) (f : Field) → payloadFrom s n at ≡ fine fs → nth fs k ≡ fine f → (p : ℕ) × Goes s p f
 unfolding nth
-nth-first f fs k e = rw e
+nth-goes s n at k [] f q e = absurd (not-fine e)
+nth-goes s n at zero (g ∷ fs) f q e =
+    let more = taken-more s n at g fs q in (at, subst (Goes s at) (fine-eq e) (field-goes s at g (more .1)))
+nth-goes s n at (suc k) (g ∷ fs) f q e = let more = taken-more s n at g fs q in nth-goes s (more .0) (after g) k fs f (more .2) e
 
-nth-next : (f : Field) (fs : List Field) (k j : ℕ) → k ≡ j + 1 → nth (f ∷ fs) k ≡ nth fs j
+-- field k of moved fields is field k, moved
+nth-moved : (b k : ℕ) (fs : List Field) (f : Field) → nth fs k ≡ fine f → nth (map (moved b) fs) k ≡ fine (moved b f)
 unfolding nth
-nth-next f fs k j e = rw (e, add-one j)
+nth-moved b k [] f e = absurd (not-fine e)
+nth-moved b zero (g ∷ fs) f e = ap (λ (x : Field). fine (moved b x)) (fine-eq e)
+nth-moved b (suc k) (g ∷ fs) f e = nth-moved b k fs f e
 
--- at the beginning all of the fields are left
-pub find-start : (s : List ℕ) (base n k : ℕ) → payload s n ≡ fine (taken (payload s n))
-    → (foundAt s base n k ≡ nth (map (moved base) (taken (payloadFrom s (n - (k - k)) 0))) k)
-    × (payloadFrom s (n - (k - k)) 0 ≡ fine (taken (payloadFrom s (n - (k - k)) 0)))
-unfolding payload foundAt
-find-start s base n k accepted =
-    let e : n ≡ n - (k - k) = omega arith in
-    subst
-    (λ (m : ℕ).
-    (nth (map (moved base) (taken (payloadFrom s n 0))) k ≡ nth (map (moved base) (taken (payloadFrom s m 0))) k)
-    × (payloadFrom s m 0 ≡ fine (taken (payloadFrom s m 0))))
-    e (refl, accepted)
+-- a row has five numbers, of which the first is the code
+row-code : (b : ℕ) (f : Field) → f .code ≤ 32 → (getD (rowOf (moved b f)) 0 0 ≤ 32) × (length (rowOf (moved b f)) ≡ 5)
+unfolding rowOf moved
+row-code b f h = (h, refl)
 
-module _ (s : List ℕ) (base : ℕ) (all : Answer Field) (m p at left : ℕ) (f : Field)
-    (whole : all ≡ nth (map (moved base) (taken (payloadFrom s m at))) left) (accepted : payloadFrom s m at ≡ fine (taken (payloadFrom s m at)))
-    (some : m ≡ p + 1) (outlined : outline s at ≡ fine f) where
-  pub find-turn : (j : ℕ) → left ≡ j + 1
-      → (all ≡ nth (map (moved base) (taken (payloadFrom s p (f .first + f .size)))) j)
-      × (payloadFrom s p (f .first + f .size) ≡ fine (taken (payloadFrom s p (f .first + f .size))))
-  unfolding after
-  find-turn j e =
-      let r = fields-next s at m p f some accepted outlined in
-      let rest = taken (payloadFrom s p (f .first + f .size)) in (
-        whole ∙ ap (λ (fs : List Field). nth (map (moved base) fs) left) (r .0) ∙ nth-next (moved base f) (map (moved base) rest) left j e,
-        r .1,
-      )
-
-  pub find-here : left ≡ 0 → fine (moved base f) ≡ all
-  unfolding after
-  find-here e =
-      let r = fields-next s at m p f some accepted outlined in
-      let rest = taken (payloadFrom s p (f .first + f .size)) in
-      nth-first (moved base f) (map (moved base) rest) left e ∙ sym (whole ∙ ap (λ (fs : List Field). nth (map (moved base) fs) left) (r .0))
+-- the field that its row tells
+row-tells : (b : ℕ) (f : Field) → f .code ≤ 32 → f .size ≡ f .values * widthOf (f .code) → fieldIn (rowOf (moved b f)) ≡ moved b f
+unfolding rowOf moved
+row-tells b f h e =
+    let many : f .size / widthOf (f .code) ≡ f .values
+    = ap (λ (x : ℕ). x / widthOf (f .code)) e ∙ mul-div-cancel (f .values) (width-positive (f .code) h) in
+    λ i. record { code = f .code; place = b + f .place; first = b + f .first; size = f .size; marked = f .marked; values = many i }
 
 -- asking is reading, and then the field
 module _ (s : List ℕ) (k : ℕ) where
-  pub ask-refused : (n p : ℕ) → whole noTable s ≡ refused n p → refused n p ≡ asked s k
-  unfolding asked
-  ask-refused n p e = let refusal : reading noTable s ≡ refused n p = reading-whole noTable s ∙ simp e in sym (simp refusal)
+  pub ask-closed : (r p : ℕ) → opening noTable s ≡ refused r p → refused r p ≡ asked s k
+  ask-closed r p e = sym (asked-refused s k r p (reading-closed noTable s r p e))
 
-  module _ (w : Whole) (e : whole noTable s ≡ fine w) where
-    ask-nth : nth (map (moved (w .head .next)) (w .fields)) k ≡ asked s k
-    unfolding asked
-    ask-nth =
-        let found : reading noTable s ≡ fine (readingOf s (w .head) (w .fields)) = reading-whole noTable s ∙ simp e in sym (simp found)
+  module _ (h : Header) (a : opening noTable s ≡ fine h) (n next : ℕ) (p : h .fields ≡ n) (q : h .next ≡ next) where
+    pub ask-refused : (r w : ℕ) → payloadSteps s next n ≡ refused r w → refused r w ≡ asked s k
+    ask-refused r w e = sym (asked-refused s k r w (open-refused noTable s h a n next p q r w e))
 
-    pub ask-none : (n : ℕ) → length (w .fields) ≡ n → n ≤ k → refused 16 0 ≡ asked s k
-    ask-none n q h =
-        sym (nth-past (map (moved (w .head .next)) (w .fields)) k (rw (length-map (w .fields) (moved (w .head .next)), q) h)) ∙ ask-nth
+    module _ (steps : ℕ) (e : payloadSteps s next n ≡ fine steps) where
+      pub ask-none : n ≤ k → refused 16 0 ≡ asked s k
+      ask-none l =
+          let r = open-accepted noTable s h a n next p q steps e in
+          let many : length (map (moved (h .next)) (r .0)) ≡ n = length-map (r .0) (moved (h .next)) ∙ payload-many (drop next s) n (r .0) (r .1) in
+          sym (asked-nth s k _ (r .2) ∙ nth-past (map (moved (h .next)) (r .0)) k (omega arith))
 
-    pub ask-found : (part : List ℕ) (next n : ℕ) → next ≡ w .head .next → length (w .fields) ≡ n → part ≡ drop next s
-        → foundAt part next n k ≡ asked s k
-    unfolding foundAt
-    ask-found part next n p q d =
-        let accepted : payload part n ≡ fine (w .fields) = rw d (part-accepted noTable s w e next n p q) in
-        let taking : taken (payload part n) ≡ w .fields = ap taken accepted in
-        rw (taking, p) ask-nth
-
-    pub ask-findable : (part : List ℕ) (next n : ℕ) → next ≡ w .head .next → length (w .fields) ≡ n → part ≡ drop next s → k < n
-        → Findable part next n k
-    unfolding limit
-    ask-findable part next n p q d h =
-        let accepted : payload part n ≡ fine (w .fields) = rw d (part-accepted noTable s w e next n p q) in
-        let within = next-within noTable s w e in
-        let short = whole-parts noTable s w e .0 in
-        record {
-          accepted = accepted ∙ ap fine (ap taken (sym accepted));
-          some = h;
-          short = rw d (omega (arith, length-drop next s));
-        }
+      -- the row that is kept of it
+      pub ask-found : (kept row : List ℕ) → length kept ≡ 5 → row ≡ keptOf s next n k kept → k < n
+          → (getD row 0 0 ≤ 32) × (length row ≡ 5) × (fine (fieldIn row) ≡ asked s k)
+      unfolding keptOf payload
+      ask-found kept row five d l =
+          let r = open-accepted noTable s h a n next p q steps e in
+          let many : length (r .0) ≡ n = payload-many (drop next s) n (r .0) (r .1) in
+          let found = nth-finds (r .0) k (omega arith) in
+          let f = found .0 in
+          let goes = nth-goes (drop next s) n 0 k (r .0) f (r .1) (found .1) .1 in
+          let one : rowsIn (length s) (length kept) ≡ 1 = sym (rows-within (length s) (length kept) (open-within noTable s h a n next p q .0)) ∙ ap (λ (x : ℕ). x / 5) five in
+          let kept-is : keptOf s next n k kept ≡ sets kept 0 (rowOf (moved next f))
+          =
+          ap₂ (λ (m : ℕ) (l : List Field). keptAll m k 0 (map (moved next) l) kept) one (front-accepted (drop next s) n (r .0) (r .1))
+          ∙ kept-nth k 0 k (map (moved next) (r .0)) (moved next f) kept (omega arith) (nth-moved next k (r .0) f (found .1)) in
+          let row-is : row ≡ rowOf (moved next f) = d ∙ kept-is ∙ sets-all kept (moved next f) five in
+          let answer : asked s k ≡ fine (moved next f)
+          = asked-nth s k _ (r .2) ∙ ap (λ (b : ℕ). nth (map (moved b) (r .0)) k) q ∙ nth-moved next k (r .0) f (found .1) in
+          rw row-is (row-code next f (goes .code) .0, row-code next f (goes .code) .1, ap fine (row-tells next f (goes .code) (goes .sized)) ∙ sym answer)

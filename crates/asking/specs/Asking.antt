@@ -1,13 +1,11 @@
 -- Asking (01, "What reading returns" and refusals 16 and 17): the field k of a message that is read afresh, with no table.
-use Prim.Native.Nat.{ℕ, zero, suc, _+_, _≤_, _<_}
-use mathlib.Core.Path.{_≡_}
-use mathlib.Core.List.{List, [], _∷_, map}
-use lib.ListN.{length, take, drop}
+use Prim.Native.Nat.{ℕ, zero, suc, _/_}
+use mathlib.Core.List.{List, [], _∷_}
+use lib.ListN.{getD, take, drop}
 use Rattle.sim0mq.specs.Answer.{Answer, fine, refused, _>>=_}
+use Rattle.sim0mq.specs.Codes.{widthOf}
 use Rattle.sim0mq.specs.Field.{Field}
-use Rattle.sim0mq.specs.Payload.{payload, moved}
 use Rattle.sim0mq.specs.Message.{noTable, reading}
-use Rattle.reading.specs.Rows.{taken}
 
 -- Field k of these, or 16 at 0.
 unfoldable pub nth : List Field → ℕ → Answer Field
@@ -26,12 +24,14 @@ abbrev pub viewOf : List ℕ → Answer Field → List ℕ
 viewOf s (fine f) = take (f .size) (drop (f .first) s)
 viewOf s (refused k p) = []
 
--- An accepted payload of n fields, more than k, that lies in a message within the limit from place `base` on.
-pub record Findable (s : List ℕ) (base n k : ℕ) : Type 0 where
-  pub accepted : payload s n ≡ fine (taken (payload s n))
-  pub some : k < n
-  pub short : base + length s ≤ 32768
-
--- Its field k, with places in the message.
-unfoldable pub foundAt : List ℕ → ℕ → ℕ → ℕ → Answer Field
-foundAt s base n k = nth (map (moved base) (taken (payload s n))) k
+-- The field whose row this is: it has as many values as its bytes make.
+abbrev pub fieldIn : List ℕ → Field
+fieldIn r =
+    record {
+      code = getD r 0 0;
+      place = getD r 1 0;
+      first = getD r 2 0;
+      size = getD r 3 0;
+      marked = getD r 4 0;
+      values = getD r 3 0 / widthOf (getD r 0 0);
+    }

@@ -1,58 +1,39 @@
 // Asking: the field k of a message, read afresh; its scalar value, or a view of its value bytes.
 ghost use mathlib.Core.Path.{_≡_};
-ghost use Prim.Native.Nat.{_+_, _≤_};
-ghost use Rattle.payload.specs.Items.{fielded, seen};
-ghost use Rattle.sim0mq.specs.Payload.{moved as movedBy};
-ghost use Rattle.asking.specs.Asking.{asked, viewOf, Findable, foundAt};
+ghost use Prim.Native.Nat.{_≤_};
+ghost use lib.ListN.{length, getD};
+ghost use Rattle.fields.specs.Items.{fielded, seen};
+ghost use Rattle.asking.specs.Asking.{asked, viewOf, fieldIn};
 ghost use Rattle.asking.specs.Scalars.{value as valueOf, valued};
 use crate::scalars::Value;
 use crate::scalars::scalar_of;
-use payload::fields::Field;
-use payload::fields::Fielded;
-use payload::fields::outline;
+use fields::Field;
+use fields::Fielded;
+use header::Said;
+use payload::payload;
+use payload::wide;
 use reading::Lent;
-use reading::Reading;
-use reading::judged;
+use reading::opened;
+use sim0mq::Judged;
 use sim0mq::Refusal;
+use tables::width;
 
 pub mod scalars;
 
-// A field of a part that begins at `base`, with places in the whole.
-fn moved(f: Field, base: usize) -> Field
-    requires { ⌜ (base + f .place ≤ 32768) × (base + f .first ≤ 32768) ⌝ }
-    ensures { λ r. ⌜ seen r ≡ movedBy base (seen f) ⌝ }
+// The field whose row this is.
+fn field_in(row: &[u16]) -> Field
+    requires { ⌜ (length (now row) ≡ 5) × (getD (now row) 0 0 ≤ 32) ⌝ }
+    ensures { λ r. ⌜ seen r ≡ fieldIn (now (row .entry)) ⌝ }
 {
+    let code = wide(row[0]);
+    let size = wide(row[3]);
     Field {
-        code: f.code,
-        place: base + f.place,
-        first: base + f.first,
-        size: f.size,
-        marked: f.marked,
-        values: f.values,
-    }
-}
-
-// The field k of an accepted payload of n fields that begins at place `base` of its message, with places in the message.
-fn find(s: &[u8], base: usize, n: usize, k: usize) -> Fielded
-    requires { ⌜ Findable (now s) base n k ⌝ }
-    ensures { λ r. ⌜ fielded r ≡ foundAt (now (s .entry)) base n k ⌝ }
-{
-    let mut at: usize = 0;
-    let mut left = k;
-    while 0 < left {
-        match outline(s, at) {
-            Fielded::Refused(r) => {
-                return Fielded::Refused(r);
-            }
-            Fielded::Accepted(f) => {
-                at = f.first + f.size;
-            }
-        }
-        left -= 1;
-    }
-    match outline(s, at) {
-        Fielded::Refused(r) => Fielded::Refused(r),
-        Fielded::Accepted(f) => Fielded::Accepted(moved(f, base)),
+        code,
+        place: wide(row[1]),
+        first: wide(row[2]),
+        size,
+        marked: wide(row[4]),
+        values: size / width(code),
     }
 }
 
@@ -60,19 +41,24 @@ fn find(s: &[u8], base: usize, n: usize, k: usize) -> Fielded
 pub fn ask(message: &[u8], k: usize) -> Fielded
     ensures { λ r. ⌜ fielded r ≡ asked (now (message .entry)) k ⌝ }
 {
-    let j = judged(message, Lent::NoTable);
-    let said = j.said;
+    let o = opened(message, Lent::NoTable);
+    let said = o.said;
     match said {
-        Reading::Refused(r) => Fielded::Refused(r),
-        Reading::Accepted(f) => {
-            if f.fields <= k {
-                return Fielded::Refused(Refusal {
-                    number: 16,
-                    place: 0,
-                });
+        Said::Refused(r) => Fielded::Refused(r),
+        Said::Accepted(e) => {
+            let mut row = [0u16; 5];
+            match payload(message, e.next, e.fields, k, &mut row) {
+                Judged::Refused(r) => Fielded::Refused(r),
+                Judged::Accepted(_) => {
+                    if e.fields <= k {
+                        return Fielded::Refused(Refusal {
+                            number: 16,
+                            place: 0,
+                        });
+                    }
+                    Fielded::Accepted(field_in(&row))
+                }
             }
-            let next = j.next;
-            find(&message[next..], next, f.fields, k)
         }
     }
 }

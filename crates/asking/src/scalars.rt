@@ -2,8 +2,9 @@
 ghost use mathlib.Core.Path.{_≡_};
 ghost use Prim.Native.Nat.{_+_, _<_, _≤_};
 ghost use lib.ListN.{length};
-ghost use Rattle.payload.specs.Items.{seen};
+ghost use Rattle.fields.specs.Items.{seen};
 ghost use Rattle.asking.specs.Scalars.{markAt, Standing, scalarOf, valued};
+use fields::Field;
 use items::numbers::number;
 use kinds::Mark;
 use kinds::Scalar;
@@ -15,7 +16,6 @@ use kinds::i8_of;
 use kinds::i16_of;
 use kinds::i32_of;
 use kinds::i64_of;
-use payload::fields::Field;
 use sim0mq::Refusal;
 
 pub enum Value {

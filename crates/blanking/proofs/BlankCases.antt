@@ -1,84 +1,162 @@
 -- Blanking one field after the other blanks them all, since each begins where the one before ends, and the last ends with the message; what stands past the message is not touched.
-use Prim.Native.Nat.{ℕ, _+_, _-_, _≤_, _<_}
-use mathlib.Core.Path.{_≡_, refl, ap, ap₂, sym, _∙_}
+use Prim.Native.Nat.{ℕ, _+_, _-_, _*_, _≤_, _<_}
+use mathlib.Core.Path.{_≡_, refl, ap, ap₂, sym, _∙_, subst}
 use mathlib.Core.List.{List, [], _∷_, _++_, append-assoc, map}
 use native.Mathlib.Omega.{arith}
-use lib.ListN.{length, take, drop, replicate, length-drop}
-use lib.Seq.{take-append-le, drop-append-le}
+use lib.ListN.{length, getD, take, drop, replicate, length-append, length-drop, length-map}
+use lib.Seq.{take-append-le, drop-append-le, drop-drop, drop-at, getD-drop}
 use lib.Dec.{leb}
 use borrow.Author.Tests.{le-leb, lt-leb, leb-true}
-use Rattle.sim0mq.specs.Answer.{fine, refused}
-use Rattle.sim0mq.specs.Mark.{marks}
-use Rattle.sim0mq.specs.Field.{Field, head, after, outline}
+use Rattle.sim0mq.specs.Answer.{Answer, fine, refused, _>>=_, partAt}
+use Rattle.sim0mq.specs.Field.{Field, after}
+use Rattle.sim0mq.specs.Header.{Header}
 use Rattle.sim0mq.specs.Payload.{payloadFrom, payload, moved}
-use Rattle.sim0mq.specs.Message.{noTable, readingOf, reading}
-use Rattle.sim0mq.specs.Table.{stored}
+use Rattle.sim0mq.specs.Message.{limit, noTable, readingOf, reading}
+use Rattle.sim0mq.specs.Table.{row, rows, rowSize, stored, placed}
 use Rattle.sim0mq.specs.Blank.{zeroed, blanked, blanking, outputAfter}
 use Rattle.sim0mq.specs.Allowed.{Each, none, more}
 use Rattle.sim0mq.proofs.BlankLaws.{Inside, inside-to, zeroed-long, blanked-long}
-use Rattle.sim0mq.proofs.Answers.{fine-eq, bind-fine, guarded, needed-bind}
+use Rattle.sim0mq.proofs.Answers.{fine-eq, bind-fine, guarded}
 use Rattle.sim0mq.proofs.Demand3.{inside, copy-is-blank}
-use Rattle.reading.specs.Answers.{Whole, whole}
-use Rattle.reading.specs.Rows.{taken}
-use Rattle.reading.proofs.RowCases.{outline-goes, fields-none, fields-next}
-use Rattle.reading.proofs.AnswerCases.{reading-whole, part-accepted, next-within}
-use Rattle.blanking.specs.Blanking.{Blankable, lengthOf}
-use Rattle.sim0mq.specs.Table.{placed}
+use Rattle.payload.specs.Parts.{payloadSteps}
+use Rattle.payload.specs.Kept.{keptOf}
+use Rattle.payload.proofs.PayloadCases.{field-goes, at-stopped, at-taken}
+use Rattle.payload.proofs.KeptLaws.{payload-many, taken-more, taken-none, kept-rows}
+use Rattle.reading.specs.Answers.{opening}
+use Rattle.reading.proofs.AnswerCases.{reading-closed, open-within, open-reading}
+use Rattle.blanking.specs.Blanking.{lengthOf, copying, taken, fieldsOf, Copyable, Blankable}
 use Rattle.blanking.proofs.TurnLaws.{placed-past, placed-whole, placed-turn}
 
--- a field's outline begins at its place
-outline-place : (s : List ℕ) (at : ℕ) (f : Field) → outline s at ≡ fine f → f .place ≡ at
-unfolding outline
-outline-place s at f q =
-    let o = bind-fine (head s at) _ q in
-    let m = bind-fine (marks s (o .0 .marked) (o .0 .next)) _ (o .2) in
-    let v = needed-bind s (m .0) _ _ (m .2) in
-    sym (ap (λ (x : Field). x .place) (fine-eq (v .1)))
+-- fields of s from `at` on, one after the other up to its end
+pub data Chained (s : List ℕ) : ℕ → List Field → Type 0 where
+  ended : {at : ℕ} → length s ≤ at → Chained s at []
+  going : {at : ℕ} {f : Field} {fs : List Field} → at ≤ f .first → f .first + f .size ≤ length s → Chained s (f .first + f .size) fs → Chained s at (f ∷ fs)
 
--- where a field stands
-pub outline-stands : (s : List ℕ) (at : ℕ) (f : Field) → outline s at ≡ fine f → (at ≤ f .first) × (f .first + f .size ≤ length s)
-outline-stands s at f q =
-    let g = outline-goes s at f q in
-    let p = outline-place s at f q in
-    (omega arith, g .3)
+-- those of an accepted payload are such
+accepted-chained : (s : List ℕ) (next n at : ℕ) (fs : List Field) → next ≤ length s → payloadFrom (drop next s) n at ≡ fine fs
+    → Chained s (next + at) (map (moved next) fs)
+unfolding after moved
+accepted-chained s next n at [] h q =
+    let past = taken-none (drop next s) n at q in
+    let over : length s ≤ next + at = omega (arith, length-drop next s) in
+    ended over
+accepted-chained s next n at (f ∷ fs) h q =
+    let m = taken-more (drop next s) n at f fs q in
+    let g = field-goes (drop next s) at f (m .1) in
+    let place = g .place in
+    let before = g .before in
+    let end = g .end in
+    let long = length-drop next s in
+    let rest = accepted-chained s next (m .0) (f .first + f .size) fs h (m .2) in
+    let there : next + (f .first + f .size) ≡ next + f .first + f .size = omega arith in
+    let from : next + at ≤ next + f .first = omega arith in
+    let to : next + f .first + f .size ≤ length s = omega arith in
+    going from to (subst (λ (p : ℕ). Chained s p (map (moved next) fs)) there rest)
 
--- at first all is to be blanked
-pub blank-start : (s : List ℕ) (base : ℕ) (out : List ℕ) (fs : List Field) → blanked (placed out base s) fs ≡ blanked (placed out (base + 0) (drop 0 s)) fs
-blank-start s base out fs =
-    let e : base ≡ base + 0 = omega arith in
-    ap (λ (k : ℕ). blanked (placed out k s) fs) e
+chained-inside : (s : List ℕ) (at : ℕ) (fs : List Field) → Chained s at fs → Each (Inside (length s)) fs
+chained-inside s at [] (ended h) = none
+chained-inside s at (f ∷ fs) (going a b c) = more b (chained-inside s (f .first + f .size) fs c)
 
--- one turn of blanking: a field is blanked, and the rest stays to be blanked
-pub blank-turn : (s : List ℕ) (base : ℕ) (all out copied next : List ℕ) (left at : ℕ) (f : Field)
-    → all ≡ blanked (placed out (base + at) (drop at s)) (map (moved base) (taken (payloadFrom s left at)))
-    → payloadFrom s left at ≡ fine (taken (payloadFrom s left at)) → base + length s ≤ length out → 0 < left → outline s at ≡ fine f
-    → copied ≡ placed out (base + at) (take (f .first - at) (drop at s)) → next ≡ zeroed copied (base + f .first) (f .size)
-    → (all ≡ blanked (placed next (base + (f .first + f .size)) (drop (f .first + f .size) s))
-    (map (moved base) (taken (payloadFrom s (left - 1) (f .first + f .size)))))
-    × (payloadFrom s (left - 1) (f .first + f .size) ≡ fine (taken (payloadFrom s (left - 1) (f .first + f .size))))
-unfolding blanked moved after
-blank-turn s base all out copied next left at f whole accepted room some outlined c e =
-    let r = fields-next s at left (left - 1) f (omega arith) accepted outlined in
-    let stands = outline-stands s at f outlined in
-    let rest = map (moved base) (taken (payloadFrom s (left - 1) (f .first + f .size))) in
-    let turn = placed-turn out s base at (f .first) (f .size) copied next (stands .0) (stands .1) room c e in (
-      whole
-          ∙ ap (λ (fs : List Field). blanked (placed out (base + at) (drop at s)) (map (moved base) fs)) (r .0)
-          ∙ ap (λ (o : List ℕ). blanked o rest) turn,
-      r .1,
-    )
+-- what is left to be blanked: these fields, whose rows stand from row i on
+pub record Left (s kept all out : List ℕ) (n at i : ℕ) : Type 0 where
+  pub fields : List Field
+  pub others : List ℕ
+  pub chained : Chained s at fields
+  pub rowed : drop (5 * i) kept ≡ rows fields ++ others
+  pub many : length fields + i ≡ n
+  pub whole : all ≡ blanked (placed out at (drop at s)) fields
+  pub room : length s ≤ length out
 
--- after the last turn nothing is left, neither a field nor a byte
-pub blank-end : (s : List ℕ) (base : ℕ) (all out : List ℕ) (left at : ℕ)
-    → all ≡ blanked (placed out (base + at) (drop at s)) (map (moved base) (taken (payloadFrom s left at)))
-    → payloadFrom s left at ≡ fine (taken (payloadFrom s left at)) → left ≡ 0 → all ≡ out
-unfolding blanked payloadFrom
-blank-end s base all out left at whole accepted e =
-    let none : payloadFrom s 0 at ≡ fine (taken (payloadFrom s left at)) = sym (ap (λ (k : ℕ). payloadFrom s k at) e) ∙ accepted in
-    let past = guarded (leb (length s) at) 13 at _ none .0 in
-    whole
-    ∙ ap (λ (fs : List Field). blanked (placed out (base + at) (drop at s)) (map (moved base) fs)) (fields-none s at left e)
-    ∙ placed-past out s (base + at) at (leb-true (length s) at past)
+-- at first all of them
+pub left-start : (s : List ℕ) (next n : ℕ) (kept out : List ℕ) → Blankable s next n kept out
+    → Left s kept (blanked (placed out next (drop next s)) (fieldsOf s next n)) out n next 0
+unfolding fieldsOf payload
+left-start s next n kept out b =
+    let fs = taken (payload (drop next s) n) in
+    let zero-more : next + 0 ≡ next = omega arith in
+    let count : length (map (moved next) fs) ≡ n = length-map fs (moved next) ∙ payload-many (drop next s) n fs (b .accepted) in
+    record {
+      fields = map (moved next) fs;
+      others = b .others;
+      chained = subst (λ (p : ℕ). Chained s p (map (moved next) fs)) zero-more (accepted-chained s next n 0 fs (b .within) (b .accepted));
+      rowed = b .rowed;
+      many = omega arith;
+      whole = refl;
+      room = b .room;
+    }
+
+-- what stands past a row
+row-past : (f : Field) (l : List ℕ) → drop 5 (row f ++ l) ≡ l
+unfolding row
+row-past f l = refl
+
+-- the next row, and the turn that it makes
+module _ (s kept all out : List ℕ) (n at i : ℕ) where
+  -- a row's numbers, told by what stands from it on
+  abbrev Told : List ℕ → Field → Type 0
+  Told others f = (getD kept (5 * i + 2) 0 ≡ f .first) × (getD kept (5 * i + 3) 0 ≡ f .size) × (5 * i + 5 ≤ length kept)
+
+  row-told : (f : Field) (others : List ℕ) → drop (5 * i) kept ≡ row f ++ others → Told others f
+  unfolding row
+  row-told f others e =
+      let long : length (drop (5 * i) kept) ≡ 5 + length others = ap length e ∙ length-append (row f) others in (
+        sym (getD-drop (5 * i) kept 2 0) ∙ ap (λ (l : List ℕ). getD l 2 0) e,
+        sym (getD-drop (5 * i) kept 3 0) ∙ ap (λ (l : List ℕ). getD l 3 0) e,
+        omega (arith, length-drop (5 * i) kept),
+      )
+
+  pub left-row : Left s kept all out n at i → i < n
+      → (at ≤ getD kept (5 * i + 2) 0) × (getD kept (5 * i + 2) 0 + getD kept (5 * i + 3) 0 ≤ length s) × (5 * i + 5 ≤ length kept)
+  unfolding rows
+  left-row l h = go (l .fields) (l .chained) (l .rowed) (l .many)
+    where
+      go : (fs : List Field) → Chained s at fs → drop (5 * i) kept ≡ rows fs ++ l .others → length fs + i ≡ n
+          → (at ≤ getD kept (5 * i + 2) 0) × (getD kept (5 * i + 2) 0 + getD kept (5 * i + 3) 0 ≤ length s) × (5 * i + 5 ≤ length kept)
+      go [] c e m = absurd (omega arith)
+      go (f ∷ fs) (going a b c) e m =
+          let t = row-told f (rows fs ++ l .others) (e ∙ append-assoc (row f) (rows fs) (l .others)) in
+          let first = t .0 in
+          let size = t .1 in
+          let room = t .2 in
+          (omega arith, omega arith, omega arith)
+
+  pub left-turn : Left s kept all out n at i → i < n → (first size : ℕ) (copied next : List ℕ)
+      → first ≡ getD kept (5 * i + 2) 0 → size ≡ getD kept (5 * i + 3) 0
+      → copied ≡ placed out at (take (first - at) (drop at s)) → next ≡ zeroed copied first size → length next ≡ length out
+      → Left s kept all next n (first + size) (i + 1)
+  unfolding rows blanked
+  left-turn l h first size copied next p q c z same = go (l .fields) (l .chained) (l .rowed) (l .many) (l .whole)
+    where
+      go : (fs : List Field) → Chained s at fs → drop (5 * i) kept ≡ rows fs ++ l .others → length fs + i ≡ n
+          → all ≡ blanked (placed out at (drop at s)) fs → Left s kept all next n (first + size) (i + 1)
+      go [] d e m w = absurd (omega arith)
+      go (f ∷ fs) (going a b d) e m w =
+          let whole-row = e ∙ append-assoc (row f) (rows fs) (l .others) in
+          let t = row-told f (rows fs ++ l .others) whole-row in
+          let first-is : first ≡ f .first = p ∙ t .0 in
+          let size-is : size ≡ f .size = q ∙ t .1 in
+          let ends : f .first + f .size ≡ first + size = omega arith in
+          let place : 5 * i + 5 ≡ 5 * (i + 1) = omega arith in
+          let room = l .room in
+          let turn = placed-turn out s at first size copied next (omega arith) (omega arith) (omega arith) c z in
+          record {
+            fields = fs;
+            others = l .others;
+            chained = subst (λ (x : ℕ). Chained s x fs) ends d;
+            rowed = ap (λ (k : ℕ). drop k kept) (sym place) ∙ sym (drop-drop 5 (5 * i) kept) ∙ ap (drop 5) whole-row ∙ row-past f (rows fs ++ l .others);
+            many = omega arith;
+            whole = w ∙ ap₂ (λ (x y : ℕ). blanked (zeroed (placed out at (drop at s)) x y) fs) (sym first-is) (sym size-is) ∙ ap (λ (o : List ℕ). blanked o fs) turn;
+            room = omega arith;
+          }
+
+  -- after the last turn nothing is left, neither a field nor a byte
+  pub left-end : Left s kept all out n at i → n ≤ i → out ≡ all
+  unfolding blanked
+  left-end l h = go (l .fields) (l .chained) (l .many) (l .whole)
+    where
+      go : (fs : List Field) → Chained s at fs → length fs + i ≡ n → all ≡ blanked (placed out at (drop at s)) fs → out ≡ all
+      go [] (ended past) m w = sym (w ∙ placed-past out s at at past)
+      go (f ∷ fs) d m w = absurd (omega arith)
 
 -- wiping what lies in the front of some bytes leaves the others
 zeroed-front : (s t : List ℕ) (at n : ℕ) → at + n ≤ length s → zeroed (s ++ t) at n ≡ zeroed s at n ++ t
@@ -95,50 +173,81 @@ blanked-front s t (f ∷ fs) (more a b) =
     let same : length z ≡ length s = zeroed-long s (f .first) (f .size) a in
     ap (λ (o : List ℕ). blanked o fs) (zeroed-front s t (f .first) (f .size) a) ∙ blanked-front z t fs (inside-to (sym same) b)
 
-module _ (s : List ℕ) (room : ℕ) where
-  pub blank-refused : (n p : ℕ) → whole noTable s ≡ refused n p → blanking room s ≡ refused n p
-  unfolding blanking
-  blank-refused n p e = let refusal : reading noTable s ≡ refused n p = reading-whole noTable s ∙ simp e in simp refusal
+-- the copy of a message whose header is read
+module _ (room : ℕ) (s : List ℕ) (next n : ℕ) where
+  module _ (kept : ℕ) (h : Copyable s next n kept) where
+    pub copy-refused : (k w : ℕ) → payloadSteps s next n ≡ refused k w → copying room s next n ≡ refused k w
+    unfolding copying
+    copy-refused k w e = simp (at-stopped s next n (h .within) k w e)
 
-  module _ (w : Whole) (e : whole noTable s ≡ fine w) where
-    read-fine : reading noTable s ≡ fine (readingOf s (w .head) (w .fields))
-    read-fine = reading-whole noTable s ∙ simp e
+    module _ (steps : ℕ) (e : payloadSteps s next n ≡ fine steps) where
+      pub copy-short : room < length s → copying room s next n ≡ refused 14 0
+      unfolding copying
+      copy-short l = let a = at-taken s next n (h .within) steps e in simp (a .1, lt-leb (length s) room l)
 
-    pub blank-short : room < length s → blanking room s ≡ refused 14 0
-    unfolding blanking
-    blank-short h = simp (read-fine, lt-leb (length s) room h)
+      copy-fine : length s ≤ room → copying room s next n ≡ fine (blanked s (fieldsOf s next n))
+      unfolding copying fieldsOf
+      copy-fine l = let a = at-taken s next n (h .within) steps e in simp (a .1, le-leb (length s) room l)
 
-    blank-fine : length s ≤ room → blanking room s ≡ fine (blanked s (map (moved (w .head .next)) (w .fields)))
-    unfolding blanking
-    blank-fine h = simp (read-fine, le-leb (length s) room h)
+      pub copy-blankable : (k m out : List ℕ) → length k ≡ kept → m ≡ keptOf s next n 0 k → length s ≤ length out → Blankable s next n m out
+      unfolding fieldsOf limit rowSize stored
+      copy-blankable k m out long d l =
+          let a = at-taken s next n (h .within) steps e in
+          let keeps = h .keeps in
+          let taking : taken (payload (drop next s) n) ≡ a .0 = ap taken (a .1) in
+          let rowed = kept-rows s next n (a .0) k (a .1) (h .short) (omega arith) in
+          record {
+            accepted = a .1 ∙ ap fine (sym taking);
+            within = h .within;
+            others = drop (length (rows (map (moved next) (a .0)))) k;
+            rowed = d ∙ rowed ∙ ap (λ (fs : List Field). rows (map (moved next) fs) ++ drop (length (rows (map (moved next) (a .0)))) k) (sym taking);
+            room = l;
+          }
 
-    -- the copy that the code makes
-    module _ (part : List ℕ) (next n : ℕ) (p : next ≡ w .head .next) (q : length (w .fields) ≡ n) (d : part ≡ drop next s) where
-      accepted-part : payload part n ≡ fine (w .fields)
-      accepted-part = rw d (part-accepted noTable s w e next n p q)
+      fields-inside : Each (Inside (length s)) (fieldsOf s next n)
+      unfolding fieldsOf payload
+      fields-inside =
+          let a = at-taken s next n (h .within) steps e in
+          let chain = accepted-chained s next n 0 (a .0) (h .within) (a .1) in
+          subst (λ (fs : List Field). Each (Inside (length s)) (map (moved next) fs)) (sym (ap taken (a .1))) (chained-inside s (next + 0) _ chain)
 
-      pub blank-blankable : (out : List ℕ) → length s ≤ length out → Blankable part next n out
-      blank-blankable out h =
-          let within = next-within noTable s w e in
-          record { accepted = accepted-part ∙ ap fine (ap taken (sym accepted-part)); room = rw d (omega (arith, length-drop next s)) }
-
-      pub blank-copied : (out front copy : List ℕ) → length out ≡ room → length s ≤ room → front ≡ placed out 0 (take next s)
-          → copy ≡ blanked (placed front next part) (map (moved next) (taken (payload part n)))
-          → (fine (length s) ≡ lengthOf (blanking room s)) × (copy ≡ outputAfter out (blanking room s))
+      -- the copy that the code makes
+      pub copy-made : (out front copy : List ℕ) → length out ≡ room → length s ≤ room → front ≡ placed out 0 (take next s)
+          → copy ≡ blanked (placed front next (drop next s)) (fieldsOf s next n)
+          → (fine (length s) ≡ lengthOf (copying room s next n)) × (copy ≡ outputAfter out (copying room s next n))
       unfolding stored lengthOf outputAfter
-      blank-copied out front copy r h c v =
-          let fs = map (moved (w .head .next)) (w .fields) in
-          let fields : map (moved next) (taken (payload part n)) ≡ fs = rw (ap taken accepted-part, p) refl in
-          let head-within = next-within noTable s w e in
-          let placing : placed front next part ≡ stored out s
-          = ap₂ (λ (o l : List ℕ). placed o next l) c d ∙ placed-whole out s next (omega arith) (omega arith) in
-          let within : Each (Inside (length s)) fs = inside s _ read-fine in
-          let before = blanked-front s (drop (length s) out) fs within in
-          let long = blanked-long s fs within in
-          let fine-is = blank-fine h in (
-            rw (fine-is, long) refl,
-            v ∙ rw (fields, placing, before) (rw (fine-is, long) refl),
-          )
+      copy-made out front copy r l c v =
+          let fs = fieldsOf s next n in
+          let within = h .within in
+          let placing : placed front next (drop next s) ≡ stored out s
+          = ap (λ (o : List ℕ). placed o next (drop next s)) c ∙ placed-whole out s next (omega arith) (omega arith) in
+          let all-inside : Each (Inside (length s)) fs = fields-inside in
+          let before = blanked-front s (drop (length s) out) fs all-inside in
+          let long = blanked-long s fs all-inside in
+          let fine-is = copy-fine l in
+          (rw (fine-is, long) refl, v ∙ rw (placing, before) (rw (fine-is, long) refl))
+
+-- blanking is what stands before the payload, and then that copy
+module _ (room : ℕ) (s : List ℕ) where
+  pub blank-closed : (k p : ℕ) → opening noTable s ≡ refused k p → blanking room s ≡ refused k p
+  unfolding blanking
+  blank-closed k p e = simp (reading-closed noTable s k p e)
+
+  module _ (h : Header) (a : opening noTable s ≡ fine h) (n next : ℕ) (p : h .fields ≡ n) (q : h .next ≡ next) where
+    pub blank-copyable : Copyable s next n 1280
+    unfolding limit rowSize
+    blank-copyable =
+        let w = open-within noTable s h a n next p q in
+        let most = w .2 in
+        record { short = w .0; within = w .1; keeps = omega arith }
+
+    pub blank-is : copying room s next n ≡ blanking room s
+    unfolding copying blanking
+    blank-is = go (partAt next (payload (drop next s) n)) refl
+      where
+        go : (b : Answer (List Field)) → partAt next (payload (drop next s) n) ≡ b → copying room s next n ≡ blanking room s
+        go (fine fs) e = simp (open-reading noTable s h a n next p q, e, q)
+        go (refused k w) e = simp (open-reading noTable s h a n next p q, e)
 
 -- a copy that was made fits in the room that there was for it
 pub copy-fits : (room : ℕ) (s : List ℕ) (n : ℕ) → lengthOf (blanking room s) ≡ fine n → n ≤ room

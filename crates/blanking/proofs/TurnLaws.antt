@@ -50,33 +50,31 @@ placed-whole out s next h room =
     ∙ ap (λ (k : ℕ). s ++ drop k out) (zero-add (length s))
 
 -- one field: what stands before its values is placed, and zeros after it, and then the rest
-pub placed-turn : (out s : List ℕ) (base at first size : ℕ) (copied next : List ℕ)
-    → at ≤ first → first + size ≤ length s → base + length s ≤ length out
-    → copied ≡ placed out (base + at) (take (first - at) (drop at s)) → next ≡ zeroed copied (base + first) size
-    → zeroed (placed out (base + at) (drop at s)) (base + first) size ≡ placed next (base + (first + size)) (drop (first + size) s)
-placed-turn out s base at first size copied next h k room c z =
+pub placed-turn : (out s : List ℕ) (at first size : ℕ) (copied next : List ℕ)
+    → at ≤ first → first + size ≤ length s → length s ≤ length out
+    → copied ≡ placed out at (take (first - at) (drop at s)) → next ≡ zeroed copied first size
+    → zeroed (placed out at (drop at s)) first size ≡ placed next (first + size) (drop (first + size) s)
+placed-turn out s at first size copied next h k room c z =
     let head = take (first - at) (drop at s) in
     let values = take size (drop first s) in
     let rest = drop (first + size) s in
     let zeros : List ℕ = replicate size 0 in
-    let q = base + first in
     let zeros-long : length zeros ≡ size = length-replicate {A = ℕ} size 0 in
     let values-long : length values ≡ size = length-take-le size (drop first s) (omega (arith, length-drop first s)) in
     let rest-long : length rest ≡ length s - (first + size) = length-drop (first + size) s in
     let head-long : length head ≡ first - at = length-take-le (first - at) (drop at s) (omega (arith, length-drop at s)) in
-    let long : length copied ≡ length out = ap length c ∙ placed-length out (base + at) head (omega arith) in
+    let long : length copied ≡ length out = ap length c ∙ placed-length out at head (omega arith) in
     let place : at + (first - at) ≡ first = omega arith in
     let split : drop at s ≡ head ++ drop first s
     = sym (take-append-drop (first - at) (drop at s)) ∙ ap (λ (l : List ℕ). head ++ l) (drop-drop (first - at) at s ∙ ap (λ (i : ℕ). drop i s) place) in
     let parts : drop first s ≡ values ++ rest
     = sym (take-append-drop size (drop first s)) ∙ ap (λ (l : List ℕ). values ++ l) (drop-drop size first s) in
-    let whole : placed out (base + at) (drop at s) ≡ placed copied q (values ++ rest)
-    = ap (placed out (base + at)) split
-    ∙ sym (placed-on out (base + at) head (drop first s) q (omega arith) (omega (arith, length-drop first s)))
-    ∙ ap₂ (λ (o l : List ℕ). placed o q l) (sym c) parts in
-    let end : q + size ≡ base + (first + size) = omega arith in
-    ap (λ (o : List ℕ). zeroed o q size) whole
-    ∙ zeroed-placed (placed copied q (values ++ rest)) q size
-    ∙ placed-over copied q values zeros rest (values-long ∙ sym zeros-long) (omega arith)
-    ∙ sym (placed-on copied q zeros rest (base + (first + size)) (omega arith) (omega arith))
-    ∙ ap (λ (o : List ℕ). placed o (base + (first + size)) rest) (sym (z ∙ zeroed-placed copied q size))
+    let whole : placed out at (drop at s) ≡ placed copied first (values ++ rest)
+    = ap (placed out at) split
+    ∙ sym (placed-on out at head (drop first s) first (omega arith) (omega (arith, length-drop first s)))
+    ∙ ap₂ (λ (o l : List ℕ). placed o first l) (sym c) parts in
+    ap (λ (o : List ℕ). zeroed o first size) whole
+    ∙ zeroed-placed (placed copied first (values ++ rest)) first size
+    ∙ placed-over copied first values zeros rest (values-long ∙ sym zeros-long) (omega arith)
+    ∙ sym (placed-on copied first zeros rest (first + size) (omega arith) (omega arith))
+    ∙ ap (λ (o : List ℕ). placed o (first + size) rest) (sym (z ∙ zeroed-placed copied first size))

@@ -1,19 +1,16 @@
 // Blanking: a copy of a message that has zero in every payload value byte, so that it shows how the message is built and nothing of what it says.
 ghost use mathlib.Core.Path.{_≡_};
-ghost use mathlib.Core.List.{map};
 ghost use Prim.Native.Nat.{_+_, _≤_};
-ghost use lib.ListN.{length};
+ghost use lib.ListN.{length, drop};
 ghost use Rattle.sim0mq.specs.Blank.{zeroed, blanked, blanking, outputAfter};
-ghost use Rattle.sim0mq.specs.Payload.{payload, moved};
 ghost use Rattle.sim0mq.specs.Views.{judged as told};
-ghost use Rattle.reading.specs.Rows.{taken};
-ghost use Rattle.blanking.specs.Blanking.{Blankable, lengthOf};
+ghost use Rattle.blanking.specs.Blanking.{lengthOf, copying, fieldsOf, Copyable, Blankable};
 ghost use Rattle.sim0mq.specs.Table.{placed};
-use payload::fields::Fielded;
-use payload::fields::next_outline;
+use header::Said;
+use payload::payload;
+use payload::wide;
 use reading::Lent;
-use reading::Reading;
-use reading::judged;
+use reading::opened;
 use sim0mq::Judged;
 
 // The bytes of s in `out` from `at` on.
@@ -40,28 +37,56 @@ fn wipe(out: &mut [u8], at: usize, n: usize)
     }
 }
 
-// The copy of an accepted payload of n fields, in `out` from `base` on: of each field its code, counts and marks, and zero for its value bytes, which are not read.
-fn blank_fields(s: &[u8], base: usize, n: usize, out: &mut [u8])
-    requires { ⌜ Blankable (now s) base n (now out) ⌝ }
-    ensures { λ _. ⌜ now (out .exit) ≡ blanked (placed (now (out .entry)) base (now (s .entry))) (map (moved base) (taken (payload (now (s .entry)) n))) ⌝ }
+// The copy of an accepted message in `out`, from `next` on, where its payload of n fields begins, whose rows are kept: of each field its code, counts and marks,
+// and zero for its value bytes, which are not read.
+fn blank_fields(message: &[u8], next: usize, n: usize, kept: &[u16], out: &mut [u8])
+    requires { ⌜ Blankable (now message) next n (now kept) (now out) ⌝ }
+    ensures { λ _. ⌜ now (out .exit) ≡ blanked (placed (now (out .entry)) next (drop next (now (message .entry)))) (fieldsOf (now (message .entry)) next n) ⌝ }
 {
-    let mut left = n;
-    let mut at: usize = 0;
-    while 0 < left {
-        match next_outline(s, left, at) {
-            Fielded::Refused(_) => {
-                return;
-            }
-            Fielded::Accepted(f) => {
-                let first = f.first;
-                let size = f.size;
-                copy(&s[at..first], out, base + at);
-                wipe(out, base + first, size);
-                at = first + size;
-            }
-        }
-        left -= 1;
+    let mut at = next;
+    let mut k: usize = 0;
+    while k < n {
+        let first = wide(kept[5 * k + 2]);
+        let size = wide(kept[5 * k + 3]);
+        copy(&message[at..first], out, at);
+        wipe(out, first, size);
+        at = first + size;
+        k += 1;
     }
+}
+
+// Judges the payload of n fields that begins at `next`, and makes the copy once it is accepted and there is room for it: the copy's length, or the refusal.
+// `kept` holds the fields' rows.
+fn copied_by(message: &[u8], next: usize, n: usize, kept: &mut [u16], out: &mut [u8]) -> Judged
+    requires { ⌜ Copyable (now message) next n (length (now kept)) ⌝ }
+    ensures answer { λ r. ⌜ told r ≡ lengthOf (copying (length (now (out .entry))) (now (message .entry)) next n) ⌝ }
+    ensures copied { λ _. ⌜ now (out .exit) ≡ outputAfter (now (out .entry)) (copying (length (now (out .entry))) (now (message .entry)) next n) ⌝ }
+{
+    match payload(message, next, n, 0, kept) {
+        Judged::Refused(r) => Judged::Refused(r),
+        Judged::Accepted(_) => {
+            if out.len() < message.len() {
+                return sim0mq::refuse(14, 0);
+            }
+            copy(&message[..next], out, 0);
+            blank_fields(message, next, n, kept, out);
+            Judged::Accepted(message.len())
+        }
+    }
+}
+
+// Judges the payload of n fields that begins at `next`, and makes the copy once it is accepted and there is room for it: the copy's length, or the refusal.
+fn copied(message: &[u8], next: usize, n: usize, out: &mut [u8]) -> Judged
+    requires { ⌜ Copyable (now message) next n 1280 ⌝ }
+    ensures answer { λ r. ⌜ told r ≡ lengthOf (copying (length (now (out .entry))) (now (message .entry)) next n) ⌝ }
+    ensures copied { λ _. ⌜ now (out .exit) ≡ outputAfter (now (out .entry)) (copying (length (now (out .entry))) (now (message .entry)) next n) ⌝ }
+{
+    if n <= 8 {
+        let mut few = [0u16; 40];
+        return copied_by(message, next, n, &mut few, out);
+    }
+    let mut all = [0u16; 1280];
+    copied_by(message, next, n, &mut all, out)
 }
 
 // The length of the message, whose blanked copy is at the front of `out`; or the refusal, reading's or 14 where `out` is shorter than the message.
@@ -69,18 +94,10 @@ pub fn blank(message: &[u8], out: &mut [u8]) -> Judged
     ensures answer { λ r. ⌜ told r ≡ lengthOf (blanking (length (now (out .entry))) (now (message .entry))) ⌝ }
     ensures copied { λ _. ⌜ now (out .exit) ≡ outputAfter (now (out .entry)) (blanking (length (now (out .entry))) (now (message .entry))) ⌝ }
 {
-    let j = judged(message, Lent::NoTable);
-    let said = j.said;
+    let o = opened(message, Lent::NoTable);
+    let said = o.said;
     match said {
-        Reading::Refused(r) => Judged::Refused(r),
-        Reading::Accepted(f) => {
-            if out.len() < message.len() {
-                return sim0mq::refuse(14, 0);
-            }
-            let next = j.next;
-            copy(&message[..next], out, 0);
-            blank_fields(&message[next..], next, f.fields, out);
-            Judged::Accepted(message.len())
-        }
+        Said::Refused(r) => Judged::Refused(r),
+        Said::Accepted(e) => copied(message, e.next, e.fields, out),
     }
 }

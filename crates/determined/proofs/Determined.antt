@@ -7,21 +7,20 @@ use Rattle.sim0mq.specs.declared.Refusal.{Refusal}
 use Rattle.sim0mq.specs.declared.Judged.{Judged}
 use Rattle.sim0mq.specs.declared.Judged.the-variants.{Accepted, Refused}
 use Rattle.sim0mq.proofs.Answers.{not-fine, fine-eq}
-use Rattle.payload.specs.Items.{headed, fielded}
-use Rattle.payload.specs.declared.fields.Headed.{Headed}
-use Rattle.payload.specs.declared.fields.Headed.the-variants.{Accepted as Headed·Accepted, Refused as Headed·Refused}
-use Rattle.payload.specs.declared.fields.Fielded.{Fielded}
-use Rattle.payload.specs.declared.fields.Fielded.the-variants.{Accepted as Fielded·Accepted, Refused as Fielded·Refused}
+use Rattle.fields.specs.Items.{headed, fielded}
+use Rattle.fields.specs.declared.Headed.{Headed}
+use Rattle.fields.specs.declared.Headed.the-variants.{Accepted as Headed·Accepted, Refused as Headed·Refused}
+use Rattle.fields.specs.declared.Fielded.{Fielded}
+use Rattle.fields.specs.declared.Fielded.the-variants.{Accepted as Fielded·Accepted, Refused as Fielded·Refused}
 use Rattle.asking.specs.Scalars.{valued}
 use Rattle.asking.specs.declared.scalars.Value.{Value}
 use Rattle.asking.specs.declared.scalars.Value.the-variants.{Is, Refused as Value·Refused}
 use Rattle.sim0mq.proofs.refuse.Reads as sim0mq-refuse
 use Rattle.payload.proofs.payload.Reads as payload
-use Rattle.payload.proofs.fields.head.Reads as head
-use Rattle.payload.proofs.fields.size.Reads as size
-use Rattle.payload.proofs.fields.values.Reads as values
-use Rattle.payload.proofs.fields.outline.Reads as outline
-use Rattle.payload.proofs.fields.next_outline.Reads as next-outline
+use Rattle.fields.proofs.head.Reads as head
+use Rattle.fields.proofs.values.Reads as values
+use Rattle.fields.proofs.outline.Reads as outline
+use Rattle.payload.proofs.wide.Reads as kept-wide
 use Rattle.items.proofs.marks.mark.Reads as mark
 use Rattle.items.proofs.marks.marks.Reads as marks
 use Rattle.items.proofs.marks.currency_taken.Reads as currency-taken
@@ -36,7 +35,7 @@ use Rattle.tables.proofs.last.Reads as last
 use Rattle.tables.proofs.per.Reads as per
 use Rattle.header.proofs.header.Reads as header
 use Rattle.header.proofs.id.Reads as id
-use Rattle.reading.proofs.judged.Reads as judgement
+use Rattle.reading.proofs.opened.Reads as opened
 use Rattle.reading.proofs.read.Reads as read
 use Rattle.reading.proofs.judge.Reads as judge
 use Rattle.asking.proofs.ask.Reads as ask
@@ -175,15 +174,9 @@ number-result = equated number.Post (λ κs z e. z) _ (λ κs a z e p. p .0)
 pub count-result : Determines count.Post (λ κs z e. z)
 count-result = determined count.Post (λ κs z e. z) (λ κs. judged) (λ κs. judged-apart) _ (λ κs a z e p. p .0)
 
--- The calls of crate payload.
-pub payload-result : Determines payload.Post (λ κs z e. z)
-payload-result = determined payload.Post (λ κs z e. z) (λ κs. judged) (λ κs. judged-apart) _ (λ κs a z e p. p .0)
-
+-- The calls of crate fields.
 pub head-result : Determines head.Post (λ κs z e. z)
 head-result = determined head.Post (λ κs z e. z) (λ κs. headed) (λ κs. headed-apart) _ (λ κs a z e p. p)
-
-pub size-result : Determines size.Post (λ κs z e. z)
-size-result = determined size.Post (λ κs z e. z) (λ κs. judged) (λ κs. judged-apart) _ (λ κs a z e p. p)
 
 pub values-result : Determines values.Post (λ κs z e. z)
 values-result = determined values.Post (λ κs z e. z) (λ κs. judged) (λ κs. judged-apart) _ (λ κs a z e p. p)
@@ -191,8 +184,15 @@ values-result = determined values.Post (λ κs z e. z) (λ κs. judged) (λ κs.
 pub outline-result : Determines outline.Post (λ κs z e. z)
 outline-result = determined outline.Post (λ κs z e. z) (λ κs. fielded) (λ κs. fielded-apart) _ (λ κs a z e p. p)
 
-pub next-outline-result : Determines next-outline.Post (λ κs z e. z)
-next-outline-result = determined next-outline.Post (λ κs z e. z) (λ κs. fielded) (λ κs. fielded-apart) _ (λ κs a z e p. p)
+-- The calls of crate payload.
+pub payload-result : Determines payload.Post (λ κs z e. z)
+payload-result = determined payload.Post (λ κs z e. z) (λ κs. judged) (λ κs. judged-apart) _ (λ κs a z e p. p .0 .0)
+
+pub payload-kept : Determines payload.Post (λ κs z e. now (e .1 .1 .1 .1 .0))
+payload-kept = equated payload.Post (λ κs z e. now (e .1 .1 .1 .1 .0)) _ (λ κs a z e p. p .1)
+
+pub kept-wide-result : Determines kept-wide.Post (λ κs z e. z)
+kept-wide-result = equated kept-wide.Post (λ κs z e. z) _ (λ κs a z e p. p .0)
 
 -- The calls of crate header.
 pub header-result : Determines header.Post (λ κs z e. z)
@@ -202,8 +202,8 @@ pub id-result : Determines id.Post (λ κs z e. z)
 id-result = determined id.Post (λ κs z e. z) (λ κs. fielded) (λ κs. fielded-apart) _ (λ κs a z e p. p)
 
 -- The calls of crate reading.
-pub judgement-result : Determines judgement.Post (λ κs z e. z)
-judgement-result = equated judgement.Post (λ κs z e. z) _ (λ κs a z e p. p)
+pub opened-result : Determines opened.Post (λ κs z e. z)
+opened-result = equated opened.Post (λ κs z e. z) _ (λ κs a z e p. p)
 
 pub read-result : Determines read.Post (λ κs z e. z)
 read-result = equated read.Post (λ κs z e. z) _ (λ κs a z e p. p .0)

@@ -10,7 +10,7 @@ use Rattle.sim0mq.specs.Field.{Field, after}
 use Rattle.sim0mq.specs.Header as H
 use Rattle.sim0mq.specs.Header.{magicBytes, idCodes, numberCodes, literal, frame, status, declared, frameOf, among}
 use Rattle.sim0mq.specs.declared.Refusal.{Refusal}
-use Rattle.payload.specs.Items.{seen}
+use Rattle.fields.specs.Items.{seen}
 use Rattle.header.specs.declared.Frame.{Frame}
 use Rattle.header.specs.declared.Answer as A
 use Rattle.header.specs.declared.Said.the-variants.{Accepted, Refused}

@@ -2,13 +2,13 @@
 ghost use mathlib.Core.Path.{_≡_};
 ghost use Rattle.sim0mq.specs.Header.{idCodes, among as amongOf, digit as digitOf, magic as magicOf, frame as frameOf, status as statusOf, header as headerOf};
 ghost use Rattle.sim0mq.specs.Views.{judged};
-ghost use Rattle.payload.specs.Items.{fielded};
+ghost use Rattle.fields.specs.Items.{fielded};
 ghost use Rattle.header.specs.Frames.{literalEnd, editionEnd, NoBoolean, nthFrame, counted, declaredNumber, headerRest, refusedAs, told};
+use fields::Field;
+use fields::Fielded;
+use fields::outline;
 use items::numbers::number;
 use items::numbers::wide;
-use payload::fields::Field;
-use payload::fields::Fielded;
-use payload::fields::outline;
 use sim0mq::Judged;
 use sim0mq::Refusal;
 

@@ -1,2 +1,3 @@
-pub mod FieldCases
+pub mod KeptCases
+pub mod KeptLaws
 pub mod PayloadCases

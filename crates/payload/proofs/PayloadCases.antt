@@ -1,25 +1,30 @@
 -- How the payload judge goes on from a place, case by case, with the steps counted so far: what the two loops of the code cite.
-use Prim.Native.Nat.{ℕ, zero, suc, _+_, _-_, _*_, _≤_, _<_}
+use Prim.Native.Nat.{ℕ, zero, suc, _+_, _-_, _*_, _≤_, _<_, zero-le}
 use mathlib.Core.Path.{_≡_, refl, ap, sym, _∙_, subst}
 use mathlib.Core.Bool.{Bool, true, false}
 use mathlib.Core.List.{List, _∷_}
 use native.Mathlib.Omega.{arith}
 use native.Mathlib.Numerals.{add-one}
-use native.Mathlib.Nat.{add-zero}
-use lib.ListN.{length}
+use native.Mathlib.Nat.{add-zero, zero-add}
+use lib.ListN.{length, take, drop, length-drop}
+use lib.Seq.{take-all}
 use lib.Dec.{leb, eqb}
 use borrow.Author.Tests.{le-leb, lt-leb, leb-true, eqb-true, eqb-false}
-use Rattle.sim0mq.specs.Answer.{Answer, fine, refused, _>>=_, need, byte}
+use Rattle.sim0mq.specs.Answer.{Answer, fine, refused, _>>=_, need, byte, partAt}
 use Rattle.sim0mq.specs.Codes.{codeKnown, countsOf, widthOf}
 use Rattle.sim0mq.specs.Mark.{mark, marks}
 use Rattle.sim0mq.specs.Field.{count, Counted, counts, Head, headRest, head, booleans, booleansOf, Field, fieldOf, after, outline, field}
-use Rattle.sim0mq.specs.Payload.{payloadFrom, steps}
+use Rattle.sim0mq.specs.Payload.{payloadFrom, payload, steps}
 use Rattle.sim0mq.specs.Allowed.{IsMark, withDisplay, withCurrency, withBoth}
-use Rattle.sim0mq.proofs.Answers.{needed, needed-bind, guarded, bind-fine, fine-eq}
+use Rattle.sim0mq.proofs.Answers.{needed, needed-bind, guarded, bind-fine, fine-eq, not-fine}
+use Rattle.sim0mq.proofs.Refusals.{Held, payload-placed}
+use Rattle.sim0mq.specs.Demand1.{judgingNumbers}
 use Rattle.sim0mq.proofs.MarkLaws.{mark-sound}
 use Rattle.sim0mq.proofs.FieldLaws.{count-sound}
-use Rattle.payload.specs.Items.{sizeAt, lastOutline, nextOutline, booleansEnd, valuesEnd, stepsFrom}
-use Rattle.payload.proofs.FieldCases.{size-goes, size-fits, last-fine, next-last, next-other}
+use Rattle.fields.specs.Items.{sizeAt, booleansEnd, valuesEnd}
+use Rattle.payload.specs.Parts.{stepsFrom, partSteps, payloadSteps}
+use Rattle.payload.specs.Kept.{Small}
+use Rattle.fields.proofs.FieldCases.{size-goes}
 
 -- how far each item goes
 mark-long : {l : List ℕ} → IsMark l → 2 ≤ length l
@@ -76,6 +81,10 @@ module _ (s : List ℕ) where
       let m = g .0 in
       (omega arith, omega arith)
 
+-- a field of this head at `at`, with so many value bytes from `first` on
+abbrev pub found : ℕ → Head → ℕ → ℕ → Field
+found at h first size = record { code = h .code; place = at; first = first; size = size; marked = h .marked; values = h .values }
+
 -- a field whose head and marks were taken is judged by its values
 module _ (s : List ℕ) (at : ℕ) (h : Head) (first : ℕ) (a : head s at ≡ fine h) (b : marks s (h .marked) (h .next) ≡ fine first) where
   field-of : field s at ≡ (valuesEnd s (h .code) (h .values) first >>= (λ e. fine (fieldOf at h first)))
@@ -91,6 +100,32 @@ module _ (s : List ℕ) (at : ℕ) (h : Head) (first : ℕ) (a : head s at ≡ f
       go (fine u) (refused k p) e f = simp (a, b, e, f)
       go (refused k p) j e f = simp (a, b, e)
 
+-- a field is judged by its head, its marks and its values
+module _ (s : List ℕ) (at : ℕ) where
+  pub field-head-stop : (r p : ℕ) → head s at ≡ refused r p → field s at ≡ refused r p
+  unfolding field outline
+  field-head-stop r p q = simp q
+
+  module _ (h : Head) (a : head s at ≡ fine h) where
+    pub field-mark-stop : (r p : ℕ) → marks s (h .marked) (h .next) ≡ refused r p → field s at ≡ refused r p
+    unfolding field outline
+    field-mark-stop r p q = simp (a, q)
+
+    module _ (first : ℕ) (b : marks s (h .marked) (h .next) ≡ fine first) where
+      pub field-values-stop : (r p : ℕ) → valuesEnd s (h .code) (h .values) first ≡ refused r p → field s at ≡ refused r p
+      field-values-stop r p q = field-of s at h first a b ∙ simp q
+
+      pub field-taken : (e : ℕ) → valuesEnd s (h .code) (h .values) first ≡ fine e → field s at ≡ fine (found at h first (e - first))
+      field-taken e q =
+          let g = values-goes s (h .code) (h .values) first e q .0 in
+          let size : h .values * widthOf (h .code) ≡ e - first = omega arith in
+          field-of s at h first a b ∙ simp q (ap (λ (z : ℕ). fine (found at h first z)) size)
+
+    -- and ends where its values do
+    pub taken-end : (first e : ℕ) → valuesEnd s (h .code) (h .values) first ≡ fine e → after (found at h first (e - first)) ≡ e
+    unfolding after
+    taken-end first e q = let g = values-goes s (h .code) (h .values) first e q .0 in omega arith
+
 -- the fields from a place on, with k steps counted before
 module _ (s : List ℕ) (at k : ℕ) where
   pub steps-over : (n : ℕ) → n ≡ 0 → at < length s → stepsFrom s n at k ≡ refused 13 at
@@ -101,77 +136,145 @@ module _ (s : List ℕ) (at k : ℕ) where
   unfolding stepsFrom payloadFrom steps
   steps-end n e h = simp (e, le-leb (length s) at h, add-zero k)
 
-  field-stop : (n r p : ℕ) → (n ≡ 0 → ⊥) → field s at ≡ refused r p → stepsFrom s n at k ≡ refused r p
+  pub steps-stop : (n r p : ℕ) → (n ≡ 0 → ⊥) → field s at ≡ refused r p → stepsFrom s n at k ≡ refused r p
   unfolding stepsFrom payloadFrom
-  field-stop zero r p h q = absurd (h refl)
-  field-stop (suc n) r p h q = simp q
+  steps-stop zero r p h q = absurd (h refl)
+  steps-stop (suc n) r p h q = simp q
 
-  field-more : (n m j : ℕ) (f : Field) → n ≡ m + 1 → field s at ≡ fine f → j ≡ k + (1 + f .marked) → stepsFrom s n at k ≡ stepsFrom s m (after f) j
+  pub steps-more : (n m j end : ℕ) (f : Field) → n ≡ m + 1 → field s at ≡ fine f → after f ≡ end → j ≡ k + (1 + f .marked)
+      → stepsFrom s n at k ≡ stepsFrom s m end j
   unfolding stepsFrom payloadFrom steps
-  field-more n m j f e q i = simp (e, add-one m, q) (same (payloadFrom s m (after f)))
+  steps-more n m j end f e q d i = simp (e, add-one m, q, ← d) (same (payloadFrom s m (after f)))
     where
       same : (a : Answer (List Field)) → ((a >>= (λ fs. fine (f ∷ fs))) >>= (λ fs. fine (k + steps fs))) ≡ (a >>= (λ fs. fine (j + steps fs)))
       same (fine fs) = ap fine (omega arith)
       same (refused r p) = refl
 
-  pub steps-head-stop : (n r p : ℕ) → (n ≡ 0 → ⊥) → head s at ≡ refused r p → stepsFrom s n at k ≡ refused r p
-  unfolding field outline
-  steps-head-stop n r p h q = field-stop n r p h (stops q)
-    where
-      stops : head s at ≡ refused r p → field s at ≡ refused r p
-      stops q = simp q
+-- how far marks and outlines go
+module _ (s : List ℕ) where
+  marks-go : (n at e : ℕ) → marks s n at ≡ fine e → at + n ≤ e
+  unfolding marks
+  marks-go zero at e q = let z : at ≡ e = fine-eq q in omega arith
+  marks-go (suc n) at e q =
+      let a = bind-fine (mark s at) _ q in
+      let g = mark-goes s at (a .0) (a .1) .0 in
+      let r = marks-go n (a .0) e (a .2) in
+      omega arith
 
-  module _ (h : Head) (a : head s at ≡ fine h) where
-    pub steps-mark-stop : (n r p : ℕ) → (n ≡ 0 → ⊥) → marks s (h .marked) (h .next) ≡ refused r p → stepsFrom s n at k ≡ refused r p
-    unfolding field outline
-    steps-mark-stop n r p z q = field-stop n r p z (stops q)
+  head-code : (at : ℕ) (h : Head) → head s at ≡ fine h → h .code ≤ 32
+  unfolding head headRest codeKnown
+  head-code at h q =
+      let a = needed s at 1 _ q in
+      let b = guarded (codeKnown (byte s at)) _ _ _ (a .1) in
+      let d = bind-fine (counts s (countsOf (byte s at)) (at + 1)) _ (b .1) in
+      let e : byte s at ≡ h .code = ap (λ (x : Head). x .code) (fine-eq (d .2)) in
+      subst (λ (c : ℕ). c ≤ 32) e (leb-true _ 32 (b .0))
+
+-- where an accepted field stands: it begins at its place, its numbers are no greater than the bytes, and its values are as many as its bytes make
+pub record Goes (s : List ℕ) (at : ℕ) (f : Field) : Type 0 where
+  pub code : f .code ≤ 32
+  pub place : f .place ≡ at
+  pub before : f .place ≤ f .first
+  pub marked : f .marked ≤ f .first
+  pub end : f .first + f .size ≤ length s
+  pub sized : f .size ≡ f .values * widthOf (f .code)
+
+pub field-goes : (s : List ℕ) (at : ℕ) (f : Field) → field s at ≡ fine f → Goes s at f
+unfolding field outline
+field-goes s at f q =
+    let d = bind-fine (outline s at) _ q in
+    let o = bind-fine (head s at) _ (d .1) in
+    let h = o .0 in
+    let m = bind-fine (marks s (h .marked) (h .next)) _ (o .2) in
+    let v = needed-bind s (m .0) (h .values * widthOf (h .code)) _ (m .2) in
+    let j = bind-fine (booleans s (booleansOf (d .0 .code) (d .0 .size)) (d .0 .first)) _ (d .2) in
+    let g = head-goes s at h (o .1) .0 in
+    let k = marks-go s (h .marked) (h .next) (m .0) (m .1) in
+    subst (Goes s at) (fine-eq (v .1) ∙ fine-eq (j .2))
+    (record { code = head-code s at h (o .1); place = refl; before = omega arith; marked = omega arith; end = v .0; sized = refl })
+
+-- an accepted field's numbers fit 16 bits, in a message within the limit
+pub field-small : (s : List ℕ) (base at : ℕ) (f : Field) → base + length s ≤ 32768 → field s at ≡ fine f → Small base f
+field-small s base at f h q =
+    let g = field-goes s at f q in
+    let code = g .code in
+    let place = g .before in
+    let marked = g .marked in
+    let end = g .end in
+    record { code = omega arith; place = omega arith; first = omega arith; size = omega arith; marked = omega arith }
+
+-- the part from a place to the end is what is left there
+pub part-all : (s : List ℕ) (b : ℕ) → take (length s - b) (drop b s) ≡ drop b s
+part-all s b = take-all (length s - b) (drop b s) (omega (arith, length-drop b s))
+
+-- a refusal is its number and its place, whatever was asked
+same-refusal : {A B : Type 0} {k p r w : ℕ} → _≡_ {A = Answer A} (refused r w) (refused k p) → _≡_ {A = Answer B} (refused r w) (refused k p)
+same-refusal e = cc
+
+-- a part's steps, and its fields
+module _ (s : List ℕ) (n : ℕ) where
+  pub steps-refused : (k p : ℕ) → partSteps s n ≡ refused k p → payload s n ≡ refused k p
+  unfolding partSteps stepsFrom payload
+  steps-refused k p e = go (payloadFrom s n 0) refl e
+    where
+      go : (a : Answer (List Field)) → payloadFrom s n 0 ≡ a → (a >>= (λ fs. fine (0 + steps fs))) ≡ refused k p → payloadFrom s n 0 ≡ refused k p
+      go (fine fs) q e = absurd (not-fine (sym e))
+      go (refused r w) q e = q ∙ same-refusal e
+
+  pub steps-accepted : (k : ℕ) → partSteps s n ≡ fine k → (fs : List Field) × (payload s n ≡ fine fs) × (steps fs ≡ k)
+  unfolding partSteps stepsFrom payload
+  steps-accepted k e =
+      let a = bind-fine (payloadFrom s n 0) _ e in (a .0, a .1, sym (zero-add (steps (a .0))) ∙ fine-eq (a .2))
+
+  pub refused-within : (k p : ℕ) → partSteps s n ≡ refused k p → p ≤ length s
+  unfolding payload
+  refused-within k p e = subst (λ (a : Answer (List Field)). Held judgingNumbers (length s) a) (steps-refused k p e) (payload-placed s n 0 zero-le) .1
+
+-- the payload that begins at a place of a message
+module _ (s : List ℕ) (next n : ℕ) where
+  pub at-short : length s < next → refused 1 (length s) ≡ payloadSteps s next n
+  unfolding payloadSteps
+  at-short h = simp (lt-leb (next + 0) (length s) (omega arith))
+
+  pub at-refused : next ≤ length s → (k p : ℕ) → partSteps (drop next s) n ≡ refused k p → refused k (next + p) ≡ payloadSteps s next n
+  unfolding payloadSteps
+  at-refused h k p e = simp (le-leb (next + 0) (length s) (omega arith), steps-refused (drop next s) n k p e)
+
+  pub at-accepted : next ≤ length s → (k : ℕ) → partSteps (drop next s) n ≡ fine k → fine k ≡ payloadSteps s next n
+  unfolding payloadSteps
+  at-accepted h k e =
+      let a = steps-accepted (drop next s) n k e in
+      simp (le-leb (next + 0) (length s) (omega arith), a .1, a .2)
+
+  -- and what its steps say of its fields
+  module _ (within : next ≤ length s) where
+    at-is : payloadSteps s next n ≡ (partAt next (payload (drop next s) n) >>= (λ fs. fine (steps fs)))
+    unfolding payloadSteps
+    at-is = simp (le-leb (next + 0) (length s) (omega arith))
+
+    pub at-stopped : (k w : ℕ) → payloadSteps s next n ≡ refused k w → partAt next (payload (drop next s) n) ≡ refused k w
+    at-stopped k w e = go (partAt next (payload (drop next s) n)) (sym at-is ∙ e)
       where
-        stops : marks s (h .marked) (h .next) ≡ refused r p → field s at ≡ refused r p
-        stops q = simp (a, q)
+        go : (b : Answer (List Field)) → (b >>= (λ fs. fine (steps fs))) ≡ refused k w → b ≡ refused k w
+        go (fine fs) e = absurd (not-fine (sym e))
+        go (refused r v) e = same-refusal e
 
-    module _ (first : ℕ) (b : marks s (h .marked) (h .next) ≡ fine first) where
-      pub steps-values-stop : (n r p : ℕ) → (n ≡ 0 → ⊥) → valuesEnd s (h .code) (h .values) first ≡ refused r p → stepsFrom s n at k ≡ refused r p
-      steps-values-stop n r p z q = field-stop n r p z (field-of s at h first a b ∙ simp q)
+    pub at-taken : (k : ℕ) → payloadSteps s next n ≡ fine k → (fs : List Field) × (payload (drop next s) n ≡ fine fs) × (steps fs ≡ k)
+    at-taken k e = go (payload (drop next s) n) refl (sym at-is ∙ e)
+      where
+        go : (b : Answer (List Field)) → payload (drop next s) n ≡ b → (partAt next b >>= (λ fs. fine (steps fs))) ≡ fine k
+            → (fs : List Field) × (payload (drop next s) n ≡ fine fs) × (steps fs ≡ k)
+        go (fine fs) d e = (fs, d, fine-eq e)
+        go (refused r v) d e = absurd (not-fine e)
 
-      pub steps-more : (n m j e : ℕ) → n ≡ m + 1 → valuesEnd s (h .code) (h .values) first ≡ fine e → j ≡ k + (1 + h .marked)
-          → stepsFrom s n at k ≡ stepsFrom s m e j
-      unfolding after
-      steps-more n m j e i q l =
-          let g = values-goes s (h .code) (h .values) first e q .0 in
-          field-more n m j (fieldOf at h first) i (field-of s at h first a b ∙ simp q) l ∙ ap (λ (x : ℕ). stepsFrom s m x j) (sym g)
-
--- in an accepted payload the outline of the next field is its outline: the last one's values end where the payload does
-module _ (s : List ℕ) (at : ℕ) where
-  -- a field whose values end with the payload
-  last-of : (h : Head) (first : ℕ) (f : Field) → head s at ≡ fine h → first + h .values * widthOf (h .code) ≤ length s → fieldOf at h first ≡ f
-      → length s ≤ after f → lastOutline s at ≡ fine f
-  unfolding after
-  last-of h first f a within is ends =
-      let z = h .values * widthOf (h .code) in
-      let end : length s ≤ first + z = subst (λ (x : Field). length s ≤ x .first + x .size) (sym is) ends in
-      let sized = size-fits s (h .code) (h .values) 0 (widthOf (h .code)) refl (omega arith) (le-leb z (length s - 0) (omega arith)) in
-      let place : length s - z ≡ first = omega arith in
-      last-fine s at h a z sized ∙ ap (λ (k : ℕ). fine (record { code = h .code; place = at; first = k; size = z; marked = h .marked; values = h .values })) place
-      ∙ ap fine is
-
-  last-is : (fs : List Field) → payloadFrom s 1 at ≡ fine fs → lastOutline s at ≡ outline s at
-  unfolding payloadFrom field outline
-  last-is fs q =
-      let a = bind-fine (field s at) _ q in
-      let b = bind-fine (payloadFrom s 0 (after (a .0))) _ (a .2) in
-      let ends = guarded (leb (length s) (after (a .0))) 13 _ _ (b .1) in
-      let c = bind-fine (outline s at) _ (a .1) in
-      let judged = bind-fine (booleans s (booleansOf (c .0 .code) (c .0 .size)) (c .0 .first)) _ (c .2) in
-      let d = bind-fine (head s at) _ (c .1) in
-      let m = bind-fine (marks s (d .0 .marked) (d .0 .next)) _ (d .2) in
-      let there = needed-bind s (m .0) (d .0 .values * widthOf (d .0 .code)) _ (m .2) in
-      let same : a .0 ≡ c .0 = sym (fine-eq (judged .2)) in
-      last-of (d .0) (m .0) (c .0) (d .1) (there .0) (fine-eq (there .1)) (subst (λ (x : Field). length s ≤ after x) same (leb-true _ _ (ends .0)))
-      ∙ sym (c .1)
-
-  pub next-is : (n : ℕ) (fs : List Field) → 0 < n → payloadFrom s n at ≡ fine fs → nextOutline s n at ≡ outline s at
-  next-is n fs h q = go (eqb n 1) refl
+-- a payload that begins at 0 is all there is
+module _ (s : List ℕ) (n : ℕ) where
+  pub alone-refused : (k p : ℕ) → payloadSteps s 0 n ≡ refused k p → payload s n ≡ refused k p
+  alone-refused k p e = sym (unmoved (payload s n)) ∙ at-stopped s 0 n zero-le k p e
     where
-      go : (b : Bool) → eqb n 1 ≡ b → nextOutline s n at ≡ outline s at
-      go true e = let one = eqb-true n 1 e in sym (next-last s at n one) ∙ last-is fs (subst (λ (k : ℕ). payloadFrom s k at ≡ fine fs) one q)
-      go false e = sym (next-other s at n (eqb-false n 1 e))
+      unmoved : (a : Answer (List Field)) → partAt 0 a ≡ a
+      unmoved (fine fs) = refl
+      unmoved (refused k p) = ap (refused k) (zero-add p)
+
+  pub alone-accepted : (k : ℕ) → payloadSteps s 0 n ≡ fine k → (fs : List Field) × (payload s n ≡ fine fs) × (steps fs ≡ k)
+  alone-accepted k e = at-taken s 0 n zero-le k e

@@ -1,40 +1,42 @@
--- How reading answers, case by case: its length, its header, the room, and the payload after the header.
-use Prim.Native.Nat.{ℕ, zero, suc, _+_, _-_, _/_, _≤_, _<_, zero-le}
-use mathlib.Core.Path.{_≡_, refl, ap, sym, _∙_, subst, subst₂}
+-- How reading answers, case by case: the message's length, its header, the table's room, and the payload after the header.
+use Prim.Native.Nat.{ℕ, _+_, _*_, _/_, _≤_, _<_}
+use mathlib.Core.Path.{_≡_, refl, ap, sym, _∙_, subst}
 use mathlib.Core.Bool.{Bool, true, false}
-use mathlib.Core.List.{List, [], _∷_, map}
+use mathlib.Core.List.{List, [], _∷_, _++_, map}
 use native.Mathlib.Omega.{arith}
-use native.Mathlib.Nat.{mul-comm, zero-add}
-use lib.ListN.{length, take, drop, length-drop, length-map}
-use lib.Seq.{take-all}
+use native.Mathlib.Nat.{mul-comm}
+use lib.ListN.{length, take, drop, length-map, length-append}
+use lib.Seq.{take-at}
 use lib.Dec.{leb, lit<}
 use borrow.Author.Tests.{leb-true, le-leb, lt-leb}
 use Rattle.sim0mq.specs.Answer as S
-use Rattle.sim0mq.specs.Answer.{fine, refused, _>>=_, _>>_, guard, partAt}
-use Rattle.sim0mq.specs.Field.{Field, after, field}
-use Rattle.sim0mq.specs.Payload.{payloadFrom, payload, moved, steps}
-use Rattle.sim0mq.specs.Table.{rowSize}
-use Rattle.sim0mq.specs.Header.{Header, header}
+use Rattle.sim0mq.specs.Answer.{fine, refused, _>>=_, partAt}
+use Rattle.sim0mq.specs.Field.{Field}
+use Rattle.sim0mq.specs.Payload.{payload, moved, steps}
+use Rattle.sim0mq.specs.Table.{row, rows, rowSize, stored}
+use Rattle.sim0mq.specs.Header.{Header, fieldsTaken, header}
 use Rattle.sim0mq.specs.Message as M
 use Rattle.sim0mq.specs.Message.{limit, enough, readingOf, stepsOf, messageRest, message, reading, tableAfter}
-use Rattle.sim0mq.specs.Demand1.{judgingNumbers}
 use Rattle.sim0mq.specs.Demand2.{cutFrames}
-use Rattle.sim0mq.proofs.Answers.{guarded, bind-fine, part-fine, fine-eq, not-fine}
+use Rattle.sim0mq.proofs.Answers.{guarded, bind-fine, fine-eq, not-fine}
 use Rattle.sim0mq.proofs.HeaderLaws.{header-sound}
-use Rattle.sim0mq.proofs.Refusals.{Held, payload-placed, header-within}
-use Rattle.payload.specs.Items.{stepsFrom, payloadSteps}
-use Rattle.payload.proofs.FieldCases.{room-test}
+use Rattle.sim0mq.proofs.Refusals.{header-within}
+use Rattle.fields.proofs.FieldCases.{room-test}
+use Rattle.payload.specs.Parts.{payloadSteps}
+use Rattle.payload.specs.Kept.{keptOf}
+use Rattle.payload.proofs.PayloadCases.{at-stopped, at-taken}
+use Rattle.payload.proofs.KeptLaws.{payload-many, kept-rows}
+use Rattle.items.specs.Numbers.{Below}
+use Rattle.sim0mq.specs.declared.Judged.{Judged}
+use Rattle.sim0mq.specs.declared.Judged.the-variants.{Accepted as Judged·Accepted, Refused as Judged·Refused}
 use Rattle.sim0mq.specs.declared.Refusal.{Refusal}
 use Rattle.header.specs.declared.Frame.{Frame}
 use Rattle.header.specs.declared.End.{End}
 use Rattle.header.specs.declared.Said.the-variants.{Accepted as Said·Accepted, Refused as Said·Refused}
 use Rattle.header.specs.Frames.{framed, told}
-use Rattle.reading.specs.declared.Answer.{Answer}
-use Rattle.reading.specs.declared.Judgement.{Judgement}
-use Rattle.reading.specs.declared.Reading.the-variants.{Accepted, Refused}
-use Rattle.reading.specs.declared.Found.{Found}
-use Rattle.reading.specs.Rows.{taken, Fillable, filled}
-use Rattle.reading.specs.Answers.{foundIn, answered, Whole, wholeRest, whole, refusedAt, restJudged, judgement}
+use Rattle.reading.specs.declared.Reading.the-variants.{Accepted}
+use Rattle.reading.specs.Rows.{rowsAfter, filled, Fillable}
+use Rattle.reading.specs.Answers.{answered, refusedAt, answerOf, opening}
 
 -- the room
 pub enough-none : (n : ℕ) → true ≡ enough M.noTable n
@@ -44,65 +46,6 @@ enough-none n = refl
 pub enough-table : (r n : ℕ) → leb n (r / 5) ≡ enough (M.table r) n
 unfolding enough rowSize
 enough-table r n = room-test n 5 r 5 refl (lit< tt) ∙ ap (λ (k : ℕ). leb k r) (mul-comm n 5)
-
--- a refusal is its number and its place, whatever was asked
-same-refusal : {A B : Type 0} {k p r w : ℕ} → _≡_ {A = S.Answer A} (refused r w) (refused k p) → _≡_ {A = S.Answer B} (refused r w) (refused k p)
-same-refusal e = cc
-
--- the part from a place to the end is what is left there
-pub part-all : (s : List ℕ) (b : ℕ) → take (length s - b) (drop b s) ≡ drop b s
-part-all s b = take-all (length s - b) (drop b s) (omega (arith, length-drop b s))
-
--- a payload's steps, and its fields
-module _ (s : List ℕ) (n : ℕ) where
-  pub steps-refused : (k p : ℕ) → payloadSteps s n ≡ refused k p → payload s n ≡ refused k p
-  unfolding payloadSteps stepsFrom payload
-  steps-refused k p e = go (payloadFrom s n 0) refl e
-    where
-      go : (a : S.Answer (List Field)) → payloadFrom s n 0 ≡ a → (a >>= (λ fs. fine (0 + steps fs))) ≡ refused k p → payloadFrom s n 0 ≡ refused k p
-      go (fine fs) q e = absurd (not-fine (sym e))
-      go (refused r w) q e = q ∙ same-refusal e
-
-  pub steps-accepted : (k : ℕ) → payloadSteps s n ≡ fine k → (fs : List Field) × (payload s n ≡ fine fs) × (steps fs ≡ k)
-  unfolding payloadSteps stepsFrom payload
-  steps-accepted k e =
-      let a = bind-fine (payloadFrom s n 0) _ e in (a .0, a .1, sym (zero-add (steps (a .0))) ∙ fine-eq (a .2))
-
-  pub refused-within : (k p : ℕ) → payload s n ≡ refused k p → p ≤ length s
-  unfolding payload
-  refused-within k p e = subst (λ (a : S.Answer (List Field)). Held judgingNumbers (length s) a) e (payload-placed s n 0 zero-le) .1
-
--- as many fields as declared
-payload-many : (s : List ℕ) (n at : ℕ) (fs : List Field) → payloadFrom s n at ≡ fine fs → length fs ≡ n
-unfolding payloadFrom
-payload-many s zero at fs q = let g = bind-fine (guard (leb (length s) at) 13 at) _ (as-bind (leb (length s) at) q) in ap length (sym (fine-eq (g .2)))
-  where
-    as-bind : (t : Bool) → (guard t 13 at >> fine []) ≡ fine fs → (guard t 13 at >>= (λ pass. fine [])) ≡ fine fs
-    as-bind true e = e
-    as-bind false e = e
-payload-many s (suc n) at fs q =
-    let a = bind-fine (field s at) _ q in
-    let b = bind-fine (payloadFrom s n (after (a .0))) _ (a .2) in
-    ap length (sym (fine-eq (b .2))) ∙ ap suc (payload-many s n (after (a .0)) (b .0) (b .1))
-
--- the judgement of a payload that begins at `next`
-module _ (s : List ℕ) (frames : List Frame) (next n : ℕ) where
-  pub rest-refused : (k p : ℕ) → payloadSteps (drop next s) n ≡ refused k p
-      → refusedAt k (next + p) ≡ restJudged s frames next (payload (drop next s) n)
-  rest-refused k p e = simp (steps-refused (drop next s) n k p e)
-
-  pub rest-accepted : (k : ℕ) → payloadSteps (drop next s) n ≡ fine k
-      → _≡_ {A = Judgement} (record { said = Accepted (record { length = length s; fields = n; steps = 8 + k }); frames = frames; next = next })
-      (restJudged s frames next (payload (drop next s) n))
-  unfolding payload
-  rest-accepted k e =
-      let a = steps-accepted (drop next s) n k e in
-      let many : length (a .0) ≡ n = payload-many (drop next s) n 0 (a .0) (a .1) in
-      simp (a .1, many, a .2)
-
-pub rest-same : (s : List ℕ) {frames frames′ : List Frame} {next next′ n n′ : ℕ} → frames ≡ frames′ → next′ ≡ next → n′ ≡ n
-    → restJudged s frames next (payload (drop next s) n) ≡ restJudged s frames′ next′ (payload (drop next′ s) n′)
-rest-same s p q r = λ i. restJudged s (p i) (sym q i) (payload (drop (sym q i) s) (sym r i))
 
 -- what a header's answer says
 module _ (frames : List Frame) where
@@ -129,158 +72,158 @@ unfolding steps moved
 steps-moved b [] = refl
 steps-moved b (f ∷ fs) = ap (λ (k : ℕ). 1 + f .marked + k) (steps-moved b fs)
 
-rest-judged : (s : List ℕ) (h : Header) → header s ≡ fine h
-    → restJudged s (map framed (h .frames)) (h .next) (payload (drop (h .next) s) (h .fields)) ≡ judgement s (wholeRest s h)
-unfolding wholeRest stepsOf
-rest-judged s h a = go (payload (drop (h .next) s) (h .fields))
-  where
-    go : (p : S.Answer (List Field))
-        → restJudged s (map framed (h .frames)) (h .next) p ≡ judgement s (partAt (h .next) p >>= (λ fs. fine (record { head = h; fields = fs })))
-    go (fine fs) =
-        let many : length fs ≡ length (map (moved (h .next)) fs) = sym (length-map fs (moved (h .next))) in
-        let counted : 8 + steps fs ≡ length (h .frames) + steps (map (moved (h .next)) fs)
-        = rw (header-eight s h a, steps-moved (h .next) fs) in
-        λ i.
-        record {
-          said = Accepted (record { length = length s; fields = many i; steps = counted i });
-          frames = map framed (h .frames);
-          next = h .next;
-        }
-    go (refused k p) = refl
+-- a header declares at most 256 fields
+header-most : (s : List ℕ) (h : Header) → header s ≡ fine h → h .fields ≤ 256
+unfolding fieldsTaken
+header-most s h e = leb-true _ 256 (header-sound s h e .is .taken)
 
--- the whole message
+-- no more steps than bytes, of which there are no more than the limit
+pub below-most : (n : ℕ) (j : Judged) → n ≤ 32768 → Below (n + 1) j → Below 32769 j
+below-most n (Judged·Accepted k) h b = omega arith
+below-most n (Judged·Refused r) h b = tt
+
+-- what stands before the payload
 module _ (lent : M.Lent) (s : List ℕ) where
-  pub whole-long : limit < length s → whole lent s ≡ refused 8 0
-  unfolding whole
-  whole-long h = simp (lt-leb (length s) limit h)
+  pub opening-long : limit < length s → opening lent s ≡ refused 8 0
+  unfolding opening
+  opening-long h = simp (lt-leb (length s) limit h)
 
   module _ (short : length s ≤ limit) where
-    pub whole-stop : (k p : ℕ) → header s ≡ refused k p → whole lent s ≡ refused k p
-    unfolding whole
-    whole-stop k p e = simp (le-leb (length s) limit short, e)
+    pub opening-stop : (k p : ℕ) → header s ≡ refused k p → opening lent s ≡ refused k p
+    unfolding opening
+    opening-stop k p e = simp (le-leb (length s) limit short, e)
 
     module _ (h : Header) (a : header s ≡ fine h) where
-      pub whole-room : enough lent (h .fields) ≡ false → whole lent s ≡ refused 14 0
-      unfolding whole
-      whole-room e = simp (le-leb (length s) limit short, a, e)
+      pub opening-room : enough lent (h .fields) ≡ false → opening lent s ≡ refused 14 0
+      unfolding opening
+      opening-room e = simp (le-leb (length s) limit short, a, e)
 
-      whole-rest : enough lent (h .fields) ≡ true → whole lent s ≡ wholeRest s h
-      unfolding whole
-      whole-rest e = simp (le-leb (length s) limit short, a, e)
+      pub opening-fine : enough lent (h .fields) ≡ true → opening lent s ≡ fine h
+      unfolding opening
+      opening-fine e = simp (le-leb (length s) limit short, a, e)
 
-      -- and its judgement is that of the payload after the header
-      pub whole-judged : enough lent (h .fields) ≡ true
-          → restJudged s (map framed (h .frames)) (h .next) (payload (drop (h .next) s) (h .fields)) ≡ judgement s (whole lent s)
-      whole-judged e = rest-judged s h a ∙ ap (judgement s) (sym (whole-rest e))
+  -- reading is that, and then the payload
+  reading-opening : reading lent s ≡ (opening lent s >>= messageRest s)
+  unfolding reading message opening
+  reading-opening = by-length (leb (length s) limit) refl
+    where
+      Same : Type 0
+      Same = reading lent s ≡ (opening lent s >>= messageRest s)
 
--- reading is the whole message without its header's end
-pub reading-whole : (lent : M.Lent) (s : List ℕ) → reading lent s ≡ (whole lent s >>= (λ w. fine (readingOf s (w .head) (w .fields))))
-unfolding reading message messageRest whole wholeRest
-reading-whole lent s = by-length (leb (length s) limit) refl
-  where
-    Same : Type 0
-    Same = reading lent s ≡ (whole lent s >>= (λ w. fine (readingOf s (w .head) (w .fields))))
+      by-room : (h : Header) → leb (length s) limit ≡ true → header s ≡ fine h → (b : Bool) → enough lent (h .fields) ≡ b → Same
+      by-room h l q true r = simp (l, q, r)
+      by-room h l q false r = simp (l, q, r)
 
-    keep : Header → List Field → Whole
-    keep h fs = record { head = h; fields = fs }
+      by-header : leb (length s) limit ≡ true → (a : S.Answer Header) → header s ≡ a → Same
+      by-header l (fine h) q = by-room h l q (enough lent (h .fields)) refl
+      by-header l (refused k p) q = simp (l, q)
 
-    rest : (h : Header) (a : S.Answer (List Field))
-        → (a >>= (λ fs. fine (readingOf s h fs))) ≡ ((a >>= (λ fs. fine (keep h fs))) >>= (λ w. fine (readingOf s (w .head) (w .fields))))
-    rest h (fine fs) = refl
-    rest h (refused k p) = refl
+      by-length : (b : Bool) → leb (length s) limit ≡ b → Same
+      by-length true l = by-header l (header s) refl
+      by-length false l = simp l
 
-    by-room : (h : Header) → leb (length s) limit ≡ true → header s ≡ fine h → (b : Bool) → enough lent (h .fields) ≡ b → Same
-    by-room h l q true r = simp (l, q, r) (rest h (partAt (h .next) (payload (drop (h .next) s) (h .fields))))
-    by-room h l q false r = simp (l, q, r)
+  pub reading-closed : (k p : ℕ) → opening lent s ≡ refused k p → reading lent s ≡ refused k p
+  reading-closed k p e = reading-opening ∙ simp e
 
-    by-header : leb (length s) limit ≡ true → (a : S.Answer Header) → header s ≡ a → Same
-    by-header l (fine h) q = by-room h l q (enough lent (h .fields)) refl
-    by-header l (refused k p) q = simp (l, q)
+  -- where it is refused
+  pub closed-answer : (k p : ℕ) → opening lent s ≡ refused k p → refusedAt k p ≡ answered (reading lent s)
+  closed-answer k p e = sym (ap answered (reading-closed k p e))
 
-    by-length : (b : Bool) → leb (length s) limit ≡ b → Same
-    by-length true l = by-header l (header s) refl
-    by-length false l = simp l
-
-pub judgement-answered : (lent : M.Lent) (s : List ℕ)
-    → _≡_ {A = Answer} (record { said = judgement s (whole lent s) .said; frames = judgement s (whole lent s) .frames }) (answered (reading lent s))
-judgement-answered lent s = rw (reading-whole lent s) (go (whole lent s))
-  where
-    go : (a : S.Answer Whole)
-        → _≡_ {A = Answer} (record { said = judgement s a .said; frames = judgement s a .frames })
-        (answered (a >>= (λ w. fine (readingOf s (w .head) (w .fields)))))
-    go (fine w) = refl
-    go (refused k p) = refl
-
--- what a judgement says of the whole message
-module _ (s : List ℕ) where
-  pub judged-refused : (a : S.Answer Whole) (k p : ℕ) → judgement s a .said ≡ Refused (record { number = k; place = p }) → a ≡ refused k p
-  judged-refused (fine w) k p e = absurd (let z : _≡_ {A = ℕ} 0 1 = cc in omega arith)
-  judged-refused (refused r w) k p e =
-      let same : _≡_ {A = Refusal} (record { number = r; place = w }) (record { number = k; place = p }) = cc in
-      ap (λ (x : Refusal). refused (x .number) (x .place)) same
-
-  pub judged-accepted : (a : S.Answer Whole) (f : Found) → judgement s a .said ≡ Accepted f
-      → (w : Whole) × (a ≡ fine w) × (judgement s a .next ≡ w .head .next) × (length (w .fields) ≡ f .fields)
-  judged-accepted (fine w) f e =
-      let same : foundIn (readingOf s (w .head) (w .fields)) ≡ f = cc in
-      (w, refl, refl, sym (length-map (w .fields) (moved (w .head .next))) ∙ ap (λ (x : Found). x .fields) same)
-  judged-accepted (refused k p) f e = absurd (let z : _≡_ {A = ℕ} 0 1 = cc in omega arith)
-
--- the lent table after a refusal, and what an accepted message gives to be stored
-module _ (lent : M.Lent) (s : List ℕ) where
-  pub refused-table : (t : List ℕ) (k p : ℕ) → whole lent s ≡ refused k p → t ≡ tableAfter t (reading lent s)
+  pub closed-table : (t : List ℕ) (k p : ℕ) → opening lent s ≡ refused k p → t ≡ tableAfter t (reading lent s)
   unfolding tableAfter
-  refused-table t k p e =
-      let refusal : reading lent s ≡ refused k p = reading-whole lent s ∙ simp e in sym (ap (tableAfter t) refusal)
+  closed-table t k p e = sym (ap (tableAfter t) (reading-closed k p e))
 
-  module _ (w : Whole) (e : whole lent s ≡ fine w) where
-    pub whole-parts : (length s ≤ limit) × (header s ≡ fine (w .head)) × (enough lent (w .head .fields) ≡ true)
-        × (payload (drop (w .head .next) s) (w .head .fields) ≡ fine (w .fields))
-    unfolding whole wholeRest
-    whole-parts =
-        let a = guarded (leb (length s) limit) _ _ _ e in
-        let b = bind-fine (header s) _ (a .1) in
-        let c = guarded (enough lent (b .0 .fields)) _ _ _ (b .2) in
-        let d = bind-fine (partAt (b .0 .next) (payload (drop (b .0 .next) s) (b .0 .fields))) _ (c .1) in
-        let same : _≡_ {A = Whole} (record { head = b .0; fields = d .0 }) w = fine-eq (d .2) in
-        subst
-        (λ (x : Whole).
-        (length s ≤ limit) × (header s ≡ fine (x .head)) × (enough lent (x .head .fields) ≡ true)
-        × (payload (drop (x .head .next) s) (x .head .fields) ≡ fine (x .fields)))
-        same (leb-true _ _ (a .0), b .1, c .0, part-fine (b .0 .next) _ (d .1))
+  -- where it is not
+  module _ (h : Header) (a : opening lent s ≡ fine h) where
+    open-parts : (length s ≤ limit) × (header s ≡ fine h) × (enough lent (h .fields) ≡ true)
+    unfolding opening
+    open-parts =
+        let b = guarded (leb (length s) limit) _ _ _ a in
+        let c = bind-fine (header s) _ (b .1) in
+        let d = guarded (enough lent (c .0 .fields)) _ _ _ (c .2) in
+        subst (λ (x : Header). (length s ≤ limit) × (header s ≡ fine x) × (enough lent (x .fields) ≡ true)) (fine-eq (d .1))
+        (leb-true _ _ (b .0), c .1, d .0)
 
-    whole-many : length (w .fields) ≡ w .head .fields
-    unfolding payload
-    whole-many = payload-many (drop (w .head .next) s) (w .head .fields) 0 (w .fields) (whole-parts .3)
+    counts : (fs : List Field) (k : ℕ) → steps fs ≡ k → 8 + k ≡ stepsOf (readingOf s h fs)
+    unfolding stepsOf
+    counts fs k e = rw (header-eight s h (open-parts .1), steps-moved (h .next) fs, e)
 
-    pub next-within : w .head .next ≤ length s
-    next-within = header-within s (w .head) (whole-parts .1)
+    -- with the numbers that the code has of it
+    module _ (n next : ℕ) (p : h .fields ≡ n) (q : h .next ≡ next) where
+      pub open-within : (length s ≤ 32768) × (next ≤ length s) × (n ≤ 256) × (enough lent n ≡ true)
+      unfolding limit
+      open-within =
+          let parts = open-parts in
+          let within = header-within s h (parts .1) in
+          let most = header-most s h (parts .1) in
+          (parts .0, omega arith, omega arith, subst (λ (k : ℕ). enough lent k ≡ true) p (parts .2))
 
-  -- with the numbers that the code has of it
-  module _ (w : Whole) (e : whole lent s ≡ fine w) (next n : ℕ) (p : next ≡ w .head .next) (q : length (w .fields) ≡ n) where
-    pub part-accepted : payload (drop next s) n ≡ fine (w .fields)
-    part-accepted =
-        let count : n ≡ w .head .fields = sym q ∙ whole-many w e in
-        rw (p, count) (whole-parts w e .3)
+      pub open-fillable : (r : ℕ) → lent ≡ M.table r → Fillable s next n 1280 r
+      unfolding limit enough rowSize
+      open-fillable r e =
+          let w = open-within in
+          let most = w .2 in
+          record { short = w .0; within = w .1; keeps = omega arith; room = leb-true _ _ (subst (λ (x : M.Lent). enough x n ≡ true) e (w .3)) }
 
-    pub accepted-fillable : (part t : List ℕ) → part ≡ drop next s → lent ≡ M.table (length t) → Fillable part next n t
-    unfolding enough
-    accepted-fillable part t d l =
-        let taking : payload part n ≡ fine (w .fields) = rw d part-accepted in
-        let count : w .head .fields ≡ n = sym (whole-many w e) ∙ q in
-        let room : enough (M.table (length t)) n ≡ true = subst₂ (λ (x : M.Lent) (k : ℕ). enough x k ≡ true) l count (whole-parts w e .2) in
-        let within = next-within w e in
-        let short = whole-parts w e .0 in
-        record {
-          accepted = taking ∙ ap fine (ap taken (sym taking));
-          short = rw d (omega (arith, length-drop next s));
-          room = leb-true _ _ room;
-        }
+      pub open-reading : reading lent s ≡ (partAt next (payload (drop next s) n) >>= (λ fs. fine (readingOf s h fs)))
+      unfolding messageRest
+      open-reading = reading-opening ∙ simp (a, p, q)
 
-    pub accepted-table : (part t : List ℕ) → part ≡ drop next s → filled part next n t ≡ tableAfter t (reading lent s)
-    unfolding tableAfter filled
-    accepted-table part t d =
-        let accepted : payload part n ≡ fine (w .fields) = rw d part-accepted in
-        let taking : taken (payload part n) ≡ w .fields = ap taken accepted in
-        let whole-reading : reading lent s ≡ fine (readingOf s (w .head) (w .fields)) = reading-whole lent s ∙ simp e in
-        sym (ap (tableAfter t) whole-reading ∙ rw (taking, p))
+      -- the payload's reader tells the rest
+      pub open-refused : (k w : ℕ) → payloadSteps s next n ≡ refused k w → reading lent s ≡ refused k w
+      open-refused k w e = open-reading ∙ simp (at-stopped s next n (open-within .1) k w e)
+
+      pub open-accepted : (k : ℕ) → payloadSteps s next n ≡ fine k
+          → (fs : List Field) × (payload (drop next s) n ≡ fine fs) × (reading lent s ≡ fine (readingOf s h fs)) × (steps fs ≡ k)
+      open-accepted k e = let a = at-taken s next n (open-within .1) k e in (a .0, a .1, open-reading ∙ simp (a .1), a .2)
+
+      pub open-answer : (frames : List Frame) → frames ≡ map framed (h .frames)
+          → answerOf (length s) frames n (payloadSteps s next n) ≡ answered (reading lent s)
+      open-answer frames f = go (payloadSteps s next n) refl
+        where
+          go : (b : S.Answer ℕ) → payloadSteps s next n ≡ b → answerOf (length s) frames n (payloadSteps s next n) ≡ answered (reading lent s)
+          go (refused k w) e = ap (answerOf (length s) frames n) e ∙ sym (ap answered (open-refused k w e))
+          go (fine k) e =
+              let r = open-accepted k e in
+              let many : n ≡ length (map (moved (h .next)) (r .0)) = sym (length-map (r .0) (moved (h .next)) ∙ payload-many (drop next s) n (r .0) (r .1)) in
+              let counted : 8 + k ≡ stepsOf (readingOf s h (r .0)) = counts (r .0) k (r .3) in
+              ap (answerOf (length s) frames n) e
+              ∙ (λ i. record { said = Accepted (record { length = length s; fields = many i; steps = counted i }); frames = f i })
+              ∙ sym (ap answered (r .2))
+
+      pub open-table : (t : List ℕ) → filled s next n t ≡ tableAfter t (reading lent s)
+      unfolding filled rowsAfter tableAfter
+      open-table t = go (payload (drop next s) n) refl
+        where
+          go : (b : S.Answer (List Field)) → payload (drop next s) n ≡ b → filled s next n t ≡ tableAfter t (reading lent s)
+          go (fine fs) e = simp (open-reading, e, q)
+          go (refused k w) e = simp (open-reading, e)
+
+-- five numbers for each field
+rows-long : (fs : List Field) → length (rows fs) ≡ 5 * length fs
+unfolding rows row
+rows-long [] = refl
+rows-long (f ∷ fs) = omega (arith, length-append (row f) (rows fs), rows-long fs)
+
+-- the table once the payload is judged: the kept rows are copied where it is accepted
+module _ (s : List ℕ) (next n kept table : ℕ) (h : Fillable s next n kept table) (t : List ℕ) where
+  pub fill-refused : (k w : ℕ) → payloadSteps s next n ≡ refused k w → t ≡ filled s next n t
+  unfolding filled rowsAfter
+  fill-refused k w e = go (payload (drop next s) n) (at-stopped s next n (h .within) k w e)
+    where
+      go : (b : S.Answer (List Field)) → partAt next b ≡ refused k w → t ≡ rowsAfter t next b
+      go (fine fs) e = absurd (not-fine (sym e))
+      go (refused r v) e = refl
+
+  pub fill-accepted : (k : ℕ) (l m t₁ : List ℕ) → payloadSteps s next n ≡ fine k → kept ≡ length l → m ≡ keptOf s next n 0 l
+      → t₁ ≡ stored t (take (5 * n) m) → t₁ ≡ filled s next n t
+  unfolding filled rowsAfter rowSize limit stored
+  fill-accepted k l m t₁ e long d c =
+      let a = at-taken s next n (h .within) k e in
+      let fs = map (moved next) (a .0) in
+      let keeps = h .keeps in
+      let kept-is : m ≡ rows fs ++ drop (length (rows fs)) l = d ∙ kept-rows s next n (a .0) l (a .1) (h .short) (omega arith) in
+      let count : length fs ≡ n = length-map (a .0) (moved next) ∙ payload-many (drop next s) n (a .0) (a .1) in
+      let size : length (rows fs) ≡ 5 * n = rows-long fs ∙ ap (λ (j : ℕ). 5 * j) count in
+      let front : take (5 * n) m ≡ rows fs = ap (take (5 * n)) kept-is ∙ take-at (rows fs) (drop (length (rows fs)) l) (5 * n) size in
+      c ∙ ap (λ (r : List ℕ). r ++ drop (length r) t) front ∙ sym (ap (rowsAfter t next) (a .1))

@@ -1,2 +1,1 @@
-pub mod RowCases
 pub mod AnswerCases

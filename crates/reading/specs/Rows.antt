@@ -1,33 +1,25 @@
--- What storing the rows does, over the definitions of the format.
-use Prim.Native.Nat.{ℕ, _+_, _*_, _≤_, _<_}
-use mathlib.Core.Path.{_≡_}
-use mathlib.Core.List.{List, [], map}
-use lib.ListN.{length}
+-- The table with the rows of a payload, over the definitions of the format.
+use Prim.Native.Nat.{ℕ, _*_, _≤_}
+use mathlib.Core.List.{List, map}
+use lib.ListN.{length, drop}
 use Rattle.sim0mq.specs.Answer.{Answer, fine, refused}
 use Rattle.sim0mq.specs.Field.{Field}
 use Rattle.sim0mq.specs.Payload.{payload, moved}
 use Rattle.sim0mq.specs.Table.{rows, rowSize, stored}
 use Rattle.sim0mq.specs.Message.{limit}
 
--- The fields that were accepted.
-abbrev pub taken : Answer (List Field) → List Field
-taken (fine fs) = fs
-taken (refused k p) = []
+-- The table once the rows of these fields are stored in it, whose places are moved by `base`; as it was, on a refusal.
+unfoldable pub rowsAfter : List ℕ → ℕ → Answer (List Field) → List ℕ
+rowsAfter table base (fine fs) = stored table (rows (map (moved base) fs))
+rowsAfter table base (refused k p) = table
 
--- A field's numbers fit 32 bits.
-pub record Small (base : ℕ) (f : Field) : Type 0 where
-  pub code : f .code < 4294967296
-  pub place : base + f .place < 4294967296
-  pub first : base + f .first < 4294967296
-  pub size : f .size < 4294967296
-  pub marked : f .marked < 4294967296
-
--- An accepted payload that lies in a message within the limit, and a table with room for its rows.
-pub record Fillable (s : List ℕ) (base n : ℕ) (table : List ℕ) : Type 0 where
-  pub accepted : payload s n ≡ fine (taken (payload s n))
-  pub short : base + length s ≤ limit
-  pub room : rowSize * n ≤ length table
-
--- The table with the rows of a payload that begins at place `base` of its message.
+-- The table with the rows of the payload of n fields that begins at `next` of the message s.
 unfoldable pub filled : List ℕ → ℕ → ℕ → List ℕ → List ℕ
-filled s base n table = stored table (rows (map (moved base) (taken (payload s n))))
+filled s next n table = rowsAfter table next (payload (drop next s) n)
+
+-- A message within the limit, in which the payload begins at `next`; and room for n rows, both where they are kept and in the table.
+pub record Fillable (s : List ℕ) (next n kept table : ℕ) : Type 0 where
+  pub short : length s ≤ limit
+  pub within : next ≤ length s
+  pub keeps : rowSize * n ≤ kept
+  pub room : rowSize * n ≤ table

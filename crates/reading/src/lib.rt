@@ -1,19 +1,23 @@
 // Reading: the header, then the part after it; with a table, or with none.
 ghost use mathlib.Core.Path.{_≡_};
-ghost use Prim.Native.Nat.{_≤_};
-ghost use lib.ListN.{length, drop};
-ghost use Rattle.sim0mq.specs.Payload.{payload as payloadOf};
+ghost use Prim.Native.Nat.{_+_, _≤_};
+ghost use lib.ListN.{length, take};
+ghost use Rattle.sim0mq.specs.Answer.{refused};
+ghost use Rattle.sim0mq.specs.Table.{stored};
+ghost use Rattle.sim0mq.specs.Views.{judged};
+ghost use Rattle.items.specs.Numbers.{Below};
+ghost use Rattle.payload.specs.Parts.{payloadSteps};
+ghost use Rattle.header.specs.Frames.{told};
 ghost use Rattle.sim0mq.specs.Message.{noTable, table as tableOf, enough as enoughOf, reading as readingOf, tableAfter};
-ghost use Rattle.reading.specs.Answers.{lentOf, whole, judgement, restJudged, refusedAt, answered};
-use crate::table::fill;
+ghost use Rattle.reading.specs.Answers.{lentOf, noFrames, answered, refusedAt, answerOf, opening};
+ghost use Rattle.reading.specs.Rows.{Fillable, filled};
 use header::Frame;
 use header::Said;
 use header::header;
 use payload::payload;
+use payload::wide;
 use sim0mq::Judged;
 use sim0mq::Refusal;
-
-mod table;
 
 // What reading finds in an accepted message: its length, its field count and its steps.
 pub struct Found {
@@ -39,13 +43,6 @@ pub enum Lent {
     Table(usize),
 }
 
-// An answer, with the place where the payload begins.
-pub struct Judgement {
-    pub said: Reading,
-    pub frames: [Frame; 8],
-    pub next: usize,
-}
-
 // The most bytes that a message has.
 const LIMIT: usize = 32768;
 
@@ -60,53 +57,102 @@ fn enough(lent: Lent, n: usize) -> bool
 }
 
 // The refusal of this number at this place.
-fn refuse(number: u32, place: usize) -> Judgement
+fn refuse(number: u32, place: usize) -> Answer
     ensures { λ r. ⌜ r ≡ refusedAt number place ⌝ }
 {
-    Judgement {
+    Answer {
         said: Reading::Refused(Refusal { number, place }),
         frames: [Frame { place: 0, code: 0 }; 8],
-        next: 0,
     }
 }
 
-// The message, judged whole.
-pub fn judged(message: &[u8], lent: Lent) -> Judgement
-    ensures { λ r. ⌜ r ≡ judgement (now (message .entry)) (whole (lentOf lent) (now (message .entry))) ⌝ }
+// The header of the message, once the message's length is judged, and before the table's room is: its end and the declared number of fields, with the frames;
+// or the refusal, with no frames.
+pub fn opened(message: &[u8], lent: Lent) -> header::Answer
+    ensures { λ r. ⌜ r ≡ told noFrames (opening (lentOf lent) (now (message .entry))) ⌝ }
 {
+    let none = [Frame { place: 0, code: 0 }; 8];
     if LIMIT < message.len() {
-        return refuse(8, 0);
+        return closed(8, none);
     }
-    let h = header(message, [Frame { place: 0, code: 0 }; 8]);
+    let h = header(message, none);
     let said = h.said;
     match said {
-        Said::Refused(r) => refuse(r.number, r.place),
+        Said::Refused(_) => h,
         Said::Accepted(e) => {
             if enough(lent, e.fields) {
-                let next = e.next;
-                let frames = h.frames;
-                return rest(message, frames, next, e.fields);
+                return h;
             }
-            refuse(14, 0)
+            closed(14, none)
         }
     }
 }
 
-// The payload of n fields that begins at `next`, after these frames.
-fn rest(message: &[u8], frames: [Frame; 8], next: usize, n: usize) -> Judgement
-    requires { ⌜ (next ≤ length (now message)) × (length (now message) ≤ 32768) ⌝ }
-    ensures { λ r. ⌜ r ≡ restJudged (now (message .entry)) frames next (payloadOf (drop next (now (message .entry))) n) ⌝ }
+// The refusal of this number at 0, as a header's answer with no frames.
+fn closed(number: u32, none: [Frame; 8]) -> header::Answer
+    ensures { λ r. ⌜ r ≡ told none (refused number 0) ⌝ }
 {
-    match payload(&message[next..], n) {
-        Judged::Refused(r) => refuse(r.number, next + r.place),
-        Judged::Accepted(steps) => Judgement {
+    header::Answer {
+        said: Said::Refused(Refusal { number, place: 0 }),
+        frames: none,
+    }
+}
+
+// The first n numbers of `kept` at the front of the table.
+fn copied(kept: &[u16], n: usize, table: &mut [u32])
+    requires { ⌜ (n ≤ length (now kept)) × (n ≤ length (now table)) ⌝ }
+    ensures { λ _. ⌜ now (table .exit) ≡ stored (now (table .entry)) (take n (now (kept .entry))) ⌝ }
+{
+    let mut i: usize = 0;
+    while i < n {
+        table[i] = wide(kept[i]) as u32;
+        i += 1;
+    }
+}
+
+// Judges the payload of n fields that begins at `next`, and stores its rows in the table once it is accepted; `kept` holds them until then.
+fn filled_by(message: &[u8], next: usize, n: usize, kept: &mut [u16], table: &mut [u32]) -> Judged
+    requires { ⌜ Fillable (now message) next n (length (now kept)) (length (now table)) ⌝ }
+    ensures answer { λ r. ⌜ (judged r ≡ payloadSteps (now (message .entry)) next n) × Below (length (now (message .entry)) + 1) r ⌝ }
+    ensures stored { λ _. ⌜ now (table .exit) ≡ filled (now (message .entry)) next n (now (table .entry)) ⌝ }
+{
+    match payload(message, next, n, 0, kept) {
+        Judged::Refused(r) => Judged::Refused(r),
+        Judged::Accepted(steps) => {
+            copied(kept, 5 * n, table);
+            Judged::Accepted(steps)
+        }
+    }
+}
+
+// Judges the payload of n fields that begins at `next`, and stores its rows in the table once it is accepted.
+fn fill(message: &[u8], next: usize, n: usize, table: &mut [u32]) -> Judged
+    requires { ⌜ Fillable (now message) next n 1280 (length (now table)) ⌝ }
+    ensures answer { λ r. ⌜ (judged r ≡ payloadSteps (now (message .entry)) next n) × Below (length (now (message .entry)) + 1) r ⌝ }
+    ensures stored { λ _. ⌜ now (table .exit) ≡ filled (now (message .entry)) next n (now (table .entry)) ⌝ }
+{
+    if n <= 8 {
+        let mut few = [0u16; 40];
+        return filled_by(message, next, n, &mut few, table);
+    }
+    let mut all = [0u16; 1280];
+    filled_by(message, next, n, &mut all, table)
+}
+
+// The answer of a message of so many bytes that has these frames and so many fields, where this is what its payload's reader says.
+fn told_by(bytes: usize, frames: [Frame; 8], fields: usize, said: Judged) -> Answer
+    requires { ⌜ Below 32769 said ⌝ }
+    ensures { λ r. ⌜ r ≡ answerOf bytes frames fields (judged said) ⌝ }
+{
+    match said {
+        Judged::Refused(r) => refuse(r.number, r.place),
+        Judged::Accepted(steps) => Answer {
             said: Reading::Accepted(Found {
-                length: message.len(),
-                fields: n,
+                length: bytes,
+                fields,
                 steps: 8 + steps,
             }),
-            frames: frames,
-            next: next,
+            frames,
         },
     }
 }
@@ -116,21 +162,14 @@ pub fn read(message: &[u8], table: &mut [u32]) -> Answer
     ensures answer { λ r. ⌜ r ≡ answered (readingOf (tableOf (length (now (table .entry)))) (now (message .entry))) ⌝ }
     ensures stored { λ r. ⌜ now (table .exit) ≡ tableAfter (now (table .entry)) (readingOf (tableOf (length (now (table .entry)))) (now (message .entry))) ⌝ }
 {
-    let j = judged(message, Lent::Table(table.len()));
-    let said = j.said;
-    let frames = j.frames;
+    let o = opened(message, Lent::Table(table.len()));
+    let said = o.said;
+    let frames = o.frames;
     match said {
-        Reading::Refused(r) => Answer {
-            said: Reading::Refused(r),
-            frames: frames,
-        },
-        Reading::Accepted(f) => {
-            let next = j.next;
-            fill(&message[next..], next, f.fields, table);
-            Answer {
-                said: Reading::Accepted(f),
-                frames: frames,
-            }
+        Said::Refused(r) => refuse(r.number, r.place),
+        Said::Accepted(e) => {
+            let filling = fill(message, e.next, e.fields, table);
+            told_by(message.len(), frames, e.fields, filling)
         }
     }
 }
@@ -139,8 +178,15 @@ pub fn read(message: &[u8], table: &mut [u32]) -> Answer
 pub fn judge(message: &[u8]) -> Answer
     ensures { λ r. ⌜ r ≡ answered (readingOf noTable (now (message .entry))) ⌝ }
 {
-    let j = judged(message, Lent::NoTable);
-    let said = j.said;
-    let frames = j.frames;
-    Answer { said, frames }
+    let o = opened(message, Lent::NoTable);
+    let said = o.said;
+    let frames = o.frames;
+    match said {
+        Said::Refused(r) => refuse(r.number, r.place),
+        Said::Accepted(e) => {
+            let mut none = [0u16; 0];
+            let judging = payload(message, e.next, e.fields, 0, &mut none);
+            told_by(message.len(), frames, e.fields, judging)
+        }
+    }
 }

@@ -10,8 +10,8 @@ use borrow.Author.Tests.{le-leb, lt-leb, lt-ltb, le-ltb, eq-eqb, ne-eqb, ltb-tru
 use Rattle.sim0mq.specs.Answer.{Answer, fine, refused}
 use Rattle.sim0mq.specs.Message.{limit}
 use Rattle.sim0mq.proofs.Answers.{and-true}
-use Rattle.payload.specs.Items.{payloadSteps}
-use Rattle.reading.proofs.AnswerCases.{steps-refused, steps-accepted}
+use Rattle.payload.specs.Parts.{payloadSteps}
+use Rattle.payload.proofs.PayloadCases.{alone-refused, alone-accepted}
 use Rattle.kinds.specs.declared.Scalar.{Scalar}
 use Rattle.encoding.specs.Scalars.{scalarText, writable, scalarGiven}
 use Rattle.sim0mq.specs.Table.{placed}
@@ -86,13 +86,13 @@ told-as w out last r a b e said left = (said ∙ sym (ap (afterAdding w) e), lef
 
 -- an encoded field, judged as a payload of one field
 module _ (l : List ℕ) where
-  pub encoded-refused : (k p : ℕ) → payloadSteps l 1 ≡ refused k p → fieldGiven (encoded l) ≡ refused k p
+  pub encoded-refused : (k p : ℕ) → payloadSteps l 0 1 ≡ refused k p → fieldGiven (encoded l) ≡ refused k p
   unfolding fieldGiven
-  encoded-refused k p e = simp (steps-refused l 1 k p e)
+  encoded-refused k p e = simp (alone-refused l 1 k p e)
 
-  pub encoded-fine : (n : ℕ) → payloadSteps l 1 ≡ fine n → fieldGiven (encoded l) ≡ fine l
+  pub encoded-fine : (n : ℕ) → payloadSteps l 0 1 ≡ fine n → fieldGiven (encoded l) ≡ fine l
   unfolding fieldGiven
-  encoded-fine n e = simp (steps-accepted l 1 n e .1)
+  encoded-fine n e = simp (alone-accepted l 1 n e .1)
 
 -- a scalar, encoded where it may be written: its text is what the encoding has at the front
 front-long : (out l : List ℕ) → length l ≤ length (placed out 0 l)

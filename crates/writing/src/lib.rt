@@ -139,7 +139,8 @@ impl Writer {
         if !takes(self, out.len()) {
             return refused(15, 0, self);
         }
-        match payload(field, 1) {
+        let mut none = [0u16; 0];
+        match payload(field, 0, 1, 0, &mut none) {
             Judged::Refused(r) => refused(r.number, r.place, self),
             Judged::Accepted(_) => append(self, field, out),
         }

@@ -1,15 +1,17 @@
--- The message is judged whole; then field k of its payload is found, or there is none.
+-- The message is judged whole; then there is no field k, or its row was kept.
 use native.Mathlib.Omega.{arith}
+use mathlib.Core.Path.{refl, sym, ap, _∙_}
+use Rattle.sim0mq.specs.Answer.{fine}
+use Rattle.sim0mq.specs.Views.{judged}
+use Rattle.header.specs.declared.Answer.{Answer}
+use Rattle.reading.proofs.AnswerCases.{told-refused, told-accepted}
+use Rattle.asking.proofs.FindCases.{ask-closed, ask-refused, ask-none, ask-found}
 use borrow.Author.Needs.{needs}
-use mathlib.Core.Path.{sym, ap, _∙_}
-use Rattle.reading.specs.declared.Judgement.{Judgement}
-use Rattle.reading.proofs.AnswerCases.{part-all, judged-refused, judged-accepted, next-within}
-use Rattle.asking.proofs.FindCases.{ask-refused, ask-none, ask-found, ask-findable}
 use Rattle.asking.proofs.ask.Statement.{statement}
 use Rattle.asking.proofs.ask.Tie as tie
 
-judged-requires : tie.Need-judged-requires
-judged-requires c κs = search needs
+opened-requires : tie.Need-opened-requires
+opened-requires c κs = search needs
 
 enum-known-said : tie.Need-enum-known-said
 enum-known-said c = search needs
@@ -17,56 +19,66 @@ enum-known-said c = search needs
 enum-known-said-2 : tie.Need-enum-known-said-2
 enum-known-said-2 c = search needs
 
+slice-aggregate-payload : tie.Need-slice-aggregate-payload
+slice-aggregate-payload c = search needs
+
+payload-requires : tie.Need-payload-requires
+payload-requires c κs = search needs
+
+enum-known-r : tie.Need-enum-known-r
+enum-known-r c = search needs
+
+enum-told : tie.Need-enum-told
+enum-told c = search needs
+
 returns : tie.Need-returns
 returns c =
-    let w = judged-accepted _ _ _ (sym (ap (λ (j : Judgement). j .said) (c .before .before .before .before .before .judged .ensures)) ∙ c .before .before .before .said2 .given .1) in
-    ask-none _ _ (w .0) (w .1) _ (w .3) (c .if1 .taken)
+    let h = told-accepted _ _ _ _ (sym (ap (λ (x : Answer). x .said) (c .before .before .before .before .before .before .before .before .before .before .opened .ensures)) ∙ c .before .before .before .before .before .before .before .before .said2 .given .1) in
+    let said = sym (c .before .before .before .before .before .payload .ensures .0 .0) ∙ ap judged (c .before .before .enum-told .given .1) in
+    ask-none _ _ (h .0) (h .1) _ _ (h .2) (h .3) _ said (c .if1 .taken)
 
-sub-find : tie.Need-sub-find
-sub-find c =
-    let w = judged-accepted _ _ _ (sym (ap (λ (j : Judgement). j .said) (c .before .before .before .before .before .judged .ensures)) ∙ c .before .before .before .said2 .given .1) in
-    let next = ap (λ (j : Judgement). j .next) (c .before .before .before .before .before .judged .ensures) ∙ w .2 in
-    let within = next-within _ _ (w .0) (w .1) in
-    omega arith
+slice-aggregate-field-in : tie.Need-slice-aggregate-field-in
+slice-aggregate-field-in c = search needs
 
-part-find-start : tie.Need-part-find-start
-part-find-start c =
-    let w = judged-accepted _ _ _ (sym (ap (λ (j : Judgement). j .said) (c .before .before .before .before .before .judged .ensures)) ∙ c .before .before .before .said2 .given .1) in
-    let next = ap (λ (j : Judgement). j .next) (c .before .before .before .before .before .judged .ensures) ∙ w .2 in
-    let within = next-within _ _ (w .0) (w .1) in
-    omega arith
-
-part-find-end : tie.Need-part-find-end
-part-find-end c = search needs
-
-find-requires : tie.Need-find-requires
-find-requires c κs =
-    let w = judged-accepted _ _ _ (sym (ap (λ (j : Judgement). j .said) (c .before .before .before .before .before .before .judged .ensures)) ∙ c .before .before .before .before .said2 .given .1) in
-    let next = ap (λ (j : Judgement). j .next) (c .before .before .before .before .before .before .judged .ensures) ∙ w .2 in
-    ask-findable _ _ (w .0) (w .1) _ _ _ next (w .3) (part-all (c .before .before .before .before .before .before .before .before .args .message .now) _) (c .before .if1 .left)
+field-in-requires : tie.Need-field-in-requires
+field-in-requires c κs =
+    let h = told-accepted _ _ _ _ (sym (ap (λ (x : Answer). x .said) (c .before .before .before .before .before .before .before .before .before .before .before .opened .ensures)) ∙ c .before .before .before .before .before .before .before .before .before .said2 .given .1) in
+    let said = sym (c .before .before .before .before .before .before .payload .ensures .0 .0) ∙ ap judged (c .before .before .before .enum-told .given .1) in
+    let found = ask-found _ _ (h .0) (h .1) _ _ (h .2) (h .3) _ said _ _ refl (c .before .before .before .before .before .before .payload .ensures .1) (c .before .if1 .left) in
+    (found .1, found .0)
 
 returns-2 : tie.Need-returns-2
 returns-2 c =
-    let stopped = judged-refused _ _ _ _ (sym (ap (λ (j : Judgement). j .said) (c .before .before .before .judged .ensures)) ∙ c .before .said .given .1) in
-    ask-refused _ _ _ _ stopped
+    let stopped = told-refused _ _ _ _ (sym (ap (λ (x : Answer). x .said) (c .before .before .before .opened .ensures)) ∙ c .before .said .given .1) in
+    ask-closed _ _ _ _ stopped
 
 returns-3 : tie.Need-returns-3
 returns-3 c =
-    let w = judged-accepted _ _ _ (sym (ap (λ (j : Judgement). j .said) (c .before .before .before .before .before .before .before .judged .ensures)) ∙ c .before .before .before .before .before .said2 .given .1) in
-    let next = ap (λ (j : Judgement). j .next) (c .before .before .before .before .before .before .before .judged .ensures) ∙ w .2 in
-    c .find .ensures ∙ ask-found _ _ (w .0) (w .1) _ _ _ next (w .3) (part-all (c .before .before .before .before .before .before .before .before .before .args .message .now) _)
+    let h = told-accepted _ _ _ _ (sym (ap (λ (x : Answer). x .said) (c .before .before .before .before .before .before .before .before .before .opened .ensures)) ∙ c .before .before .before .before .before .before .before .said2 .given .1) in
+    let said = sym (c .before .before .before .before .payload .ensures .0 .0) ∙ ap judged (c .before .r .given .1) in
+    ask-refused _ _ (h .0) (h .1) _ _ (h .2) (h .3) _ _ said
+
+returns-4 : tie.Need-returns-4
+returns-4 c =
+    let h = told-accepted _ _ _ _ (sym (ap (λ (x : Answer). x .said) (c .before .before .before .before .before .before .before .before .before .before .before .before .opened .ensures)) ∙ c .before .before .before .before .before .before .before .before .before .before .said2 .given .1) in
+    let said = sym (c .before .before .before .before .before .before .before .payload .ensures .0 .0) ∙ ap judged (c .before .before .before .before .enum-told .given .1) in
+    let found = ask-found _ _ (h .0) (h .1) _ _ (h .2) (h .3) _ said _ _ refl (c .before .before .before .before .before .before .before .payload .ensures .1) (c .before .before .if1 .left) in
+    ap fine (c .field-in .ensures) ∙ found .2
 
 pub ask-spec : {M : Type 1} → statement M
 ask-spec =
     tie.close
     (tie.spec
-    judged-requires
+    opened-requires
     enum-known-said
     enum-known-said-2
+    slice-aggregate-payload
+    payload-requires
+    enum-known-r
+    enum-told
     returns
-    sub-find
-    part-find-start
-    part-find-end
-    find-requires
+    slice-aggregate-field-in
+    field-in-requires
     returns-2
-    returns-3)
+    returns-3
+    returns-4)

@@ -2,7 +2,7 @@
 use borrow.Author.Needs.{needs}
 use mathlib.Core.Path.{sym, ap, _∙_}
 use Rattle.sim0mq.specs.Answer.{_>>=_}
-use Rattle.payload.specs.Items.{fielded}
+use Rattle.fields.specs.Items.{fielded}
 use Rattle.asking.specs.Scalars.{scalarOf, value}
 use Rattle.asking.proofs.StandingLaws.{asked-standing}
 use Rattle.asking.proofs.value.Statement.{statement}

@@ -4,7 +4,7 @@ use Prim.Native.Nat.{ℕ, _+_, _-_}
 use mathlib.Core.Path.{_≡_, sym, ap, _∙_}
 use lib.ListN.{take, drop}
 use native.Mathlib.Omega.{arith}
-use Rattle.payload.specs.Items.{fielded}
+use Rattle.fields.specs.Items.{fielded}
 use Rattle.asking.specs.Asking.{viewOf}
 use Rattle.asking.proofs.StandingLaws.{asked-standing}
 use Rattle.asking.proofs.view.Statement.{statement}

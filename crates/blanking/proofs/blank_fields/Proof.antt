@@ -1,109 +1,156 @@
--- The fields blanked so far, and the rest of the payload placed after them and blanked, are the whole.
-use borrow.Author.Needs.{needs}
+-- The fields blanked so far, and the rest of the message placed after them and blanked, are the whole.
 use native.Mathlib.Omega.{arith}
-use Prim.Native.Nat.{_+_, _-_, _≤_}
-use mathlib.Core.Path.{_≡_, refl, sym, ap, _∙_}
-use mathlib.Core.List.{map}
-use lib.ListN.{length, drop}
-use Rattle.sim0mq.specs.Answer.{fine}
-use Rattle.sim0mq.specs.Payload.{payloadFrom, payload, moved}
+use Prim.Native.Nat.{_-_}
+use mathlib.Core.Path.{_≡_, refl}
+use lib.ListN.{length, drop, length-drop}
+use lib.Seq.{length-take-le}
 use Rattle.sim0mq.specs.Blank.{blanked}
-use Rattle.payload.specs.Items.{fielded}
-use Rattle.reading.specs.Rows.{taken}
-use Rattle.reading.proofs.RowCases.{fields-taken, next-outlined}
 use Rattle.sim0mq.specs.Table.{placed}
-use Rattle.blanking.proofs.BlankCases.{outline-stands, blank-start, blank-turn, blank-end}
+use Rattle.blanking.specs.Blanking.{fieldsOf}
+use Rattle.blanking.proofs.BlankCases.{Left, left-start, left-row, left-turn, left-end}
+use borrow.Author.Needs.{needs}
 use Rattle.blanking.proofs.blank_fields.Statement.{statement}
 use Rattle.blanking.proofs.blank_fields.Tie as tie
 
 abbrev Inv-loop : tie.InvT-loop
-Inv-loop s base n out₀ left₀ at₀ out left at =
-    (blanked (placed out₀ base s) (map (moved base) (taken (payload s n)))
-    ≡ blanked (placed out (base + at) (drop at s)) (map (moved base) (taken (payloadFrom s left at))))
-    × (payloadFrom s left at ≡ fine (taken (payloadFrom s left at)))
-    × (base + length s ≤ length out)
-    × (length out ≡ length out₀)
+Inv-loop message next n kept out₀ at₀ k₀ out at k =
+    Left message kept (blanked (placed out₀ next (drop next message)) (fieldsOf message next n)) out n at k × (length out ≡ length out₀)
 
 abbrev μ-loop : tie.MeasureT-loop
-μ-loop s base n out₀ left₀ at₀ out left at = left
+μ-loop message next n kept out₀ at₀ k₀ out at k = n - k
 
 loop-holds : tie.Need-loop-holds Inv-loop μ-loop
-unfolding payload
-loop-holds c = (blank-start _ _ _ _, c .before .before .pre .accepted, c .before .before .pre .room, refl)
+loop-holds c = (left-start _ _ _ _ _ (c .before .before .before .pre), refl)
 
-next-outline-requires : tie.Need-next-outline-requires Inv-loop μ-loop
-next-outline-requires c κs = search needs
+mul-wide : tie.Need-mul-wide Inv-loop μ-loop
+mul-wide c =
+    let kept = left-row _ _ _ _ _ _ _ (c .before .loop .inv .0) (c .loop-test .taken) .2 in
+    omega arith
 
-enum-told : tie.Need-enum-told Inv-loop μ-loop
-enum-told c = search needs
+add-wide : tie.Need-add-wide Inv-loop μ-loop
+add-wide c =
+    let kept = left-row _ _ _ _ _ _ _ (c .before .loop .inv .0) (c .loop-test .taken) .2 in
+    omega arith
 
-same-length : tie.Need-same-length Inv-loop μ-loop
-same-length c = search needs
+mul-wide-2 : tie.Need-mul-wide-2 Inv-loop μ-loop
+mul-wide-2 c =
+    let kept = left-row _ _ _ _ _ _ _ (c .before .loop .inv .0) (c .loop-test .taken) .2 in
+    omega arith
 
-returns : tie.Need-returns Inv-loop μ-loop
-returns c = absurd (fields-taken _ _ _ (c .before .before .before .before .loop .left - 1) _ _ (omega arith) (c .before .before .before .before .loop .inv .1) (next-outlined _ _ _ (c .before .before .before .loop-test .taken) (c .before .before .before .before .loop .inv .1) (sym (c .before .before .next-outline .ensures) ∙ ap fielded (c .enum-told .given .1))))
+shared-slice-read-wide : tie.Need-shared-slice-read-wide Inv-loop μ-loop
+shared-slice-read-wide c =
+    let kept = left-row _ _ _ _ _ _ _ (c .before .before .loop .inv .0) (c .before .loop-test .taken) .2 in
+    omega arith
 
-enum-known-f : tie.Need-enum-known-f Inv-loop μ-loop
-enum-known-f c = search needs
+wide-requires : tie.Need-wide-requires Inv-loop μ-loop
+wide-requires c κs = search needs
+
+mul-wide-3 : tie.Need-mul-wide-3 Inv-loop μ-loop
+mul-wide-3 c =
+    let kept = left-row _ _ _ _ _ _ _ (c .before .before .before .loop .inv .0) (c .before .before .loop-test .taken) .2 in
+    omega arith
+
+add-wide-2 : tie.Need-add-wide-2 Inv-loop μ-loop
+add-wide-2 c =
+    let kept = left-row _ _ _ _ _ _ _ (c .before .before .before .loop .inv .0) (c .before .before .loop-test .taken) .2 in
+    omega arith
+
+mul-wide-4 : tie.Need-mul-wide-4 Inv-loop μ-loop
+mul-wide-4 c =
+    let kept = left-row _ _ _ _ _ _ _ (c .before .before .before .loop .inv .0) (c .before .before .loop-test .taken) .2 in
+    omega arith
+
+shared-slice-read-wide-2 : tie.Need-shared-slice-read-wide-2 Inv-loop μ-loop
+shared-slice-read-wide-2 c =
+    let kept = left-row _ _ _ _ _ _ _ (c .before .before .before .before .loop .inv .0) (c .before .before .before .loop-test .taken) .2 in
+    omega arith
+
+wide-requires-2 : tie.Need-wide-requires-2 Inv-loop μ-loop
+wide-requires-2 c κs = search needs
 
 sub-copy : tie.Need-sub-copy Inv-loop μ-loop
 sub-copy c =
-    let stands = outline-stands _ _ _ (next-outlined _ _ _ (c .before .before .before .before .loop-test .taken) (c .before .before .before .before .before .loop .inv .1) (sym (c .before .before .before .next-outline .ensures) ∙ ap fielded (c .before .f .given .1))) in
+    let row = left-row _ _ _ _ _ _ _ (c .before .before .before .before .before .loop .inv .0) (c .before .before .before .before .loop-test .taken) in
+    let before = row .0 in
+    let end = row .1 in
+    let kept = row .2 in
+    let first = c .before .before .wide .ensures .0 in
+    let size = c .wide2 .ensures .0 in
     omega arith
 
 part-copy-start : tie.Need-part-copy-start Inv-loop μ-loop
 part-copy-start c =
-    let stands = outline-stands _ _ _ (next-outlined _ _ _ (c .before .before .before .before .loop-test .taken) (c .before .before .before .before .before .loop .inv .1) (sym (c .before .before .before .next-outline .ensures) ∙ ap fielded (c .before .f .given .1))) in
+    let row = left-row _ _ _ _ _ _ _ (c .before .before .before .before .before .loop .inv .0) (c .before .before .before .before .loop-test .taken) in
+    let before = row .0 in
+    let end = row .1 in
+    let kept = row .2 in
+    let first = c .before .before .wide .ensures .0 in
+    let size = c .wide2 .ensures .0 in
     omega arith
 
 part-copy-end : tie.Need-part-copy-end Inv-loop μ-loop
 part-copy-end c =
-    let stands = outline-stands _ _ _ (next-outlined _ _ _ (c .before .before .before .before .loop-test .taken) (c .before .before .before .before .before .loop .inv .1) (sym (c .before .before .before .next-outline .ensures) ∙ ap fielded (c .before .f .given .1))) in
-    omega arith
-
-add-copy : tie.Need-add-copy Inv-loop μ-loop
-add-copy c =
-    let stands = outline-stands _ _ _ (next-outlined _ _ _ (c .before .before .before .before .before .before .loop-test .taken) (c .before .before .before .before .before .before .before .loop .inv .1) (sym (c .before .before .before .before .before .next-outline .ensures) ∙ ap fielded (c .before .before .before .f .given .1))) in
+    let row = left-row _ _ _ _ _ _ _ (c .before .before .before .before .before .loop .inv .0) (c .before .before .before .before .loop-test .taken) in
+    let before = row .0 in
+    let end = row .1 in
+    let kept = row .2 in
+    let first = c .before .before .wide .ensures .0 in
+    let size = c .wide2 .ensures .0 in
     omega arith
 
 copy-requires : tie.Need-copy-requires Inv-loop μ-loop
 copy-requires c κs =
-    let stands = outline-stands _ _ _ (next-outlined _ _ _ (c .before .before .before .before .before .before .loop-test .taken) (c .before .before .before .before .before .before .before .loop .inv .1) (sym (c .before .before .before .before .before .next-outline .ensures) ∙ ap fielded (c .before .before .before .f .given .1))) in
-    omega arith
-
-add-wipe : tie.Need-add-wipe Inv-loop μ-loop
-add-wipe c =
-    let stands = outline-stands _ _ _ (next-outlined _ _ _ (c .before .before .before .before .before .before .before .before .before .before .loop-test .taken) (c .before .before .before .before .before .before .before .before .before .before .before .loop .inv .1) (sym (c .before .before .before .before .before .before .before .before .before .next-outline .ensures) ∙ ap fielded (c .before .before .before .before .before .before .before .f .given .1))) in
+    let row = left-row _ _ _ _ _ _ _ (c .before .before .before .before .before .before .before .loop .inv .0) (c .before .before .before .before .before .before .loop-test .taken) in
+    let before = row .0 in
+    let end = row .1 in
+    let kept = row .2 in
+    let first = c .before .before .before .before .wide .ensures .0 in
+    let size = c .before .before .wide2 .ensures .0 in
+    let room = c .before .before .before .before .before .before .before .loop .inv .0 .room in
+    let s = c .before .before .before .before .before .before .before .before .before .before .before .args .message .now in
+    let at = c .before .before .before .before .before .before .before .loop .at in
+    let part = length-take-le (c .before .before .before .before .wide .result - at) (drop at s) (omega (arith, length-drop at s)) in
     omega arith
 
 wipe-requires : tie.Need-wipe-requires Inv-loop μ-loop
 wipe-requires c κs =
-    let stands = outline-stands _ _ _ (next-outlined _ _ _ (c .before .before .before .before .before .before .before .before .before .before .loop-test .taken) (c .before .before .before .before .before .before .before .before .before .before .before .loop .inv .1) (sym (c .before .before .before .before .before .before .before .before .before .next-outline .ensures) ∙ ap fielded (c .before .before .before .before .before .before .before .f .given .1))) in
+    let row = left-row _ _ _ _ _ _ _ (c .before .before .before .before .before .before .before .before .before .before .before .loop .inv .0) (c .before .before .before .before .before .before .before .before .before .before .loop-test .taken) in
+    let before = row .0 in
+    let end = row .1 in
+    let kept = row .2 in
+    let first = c .before .before .before .before .before .before .before .before .wide .ensures .0 in
+    let size = c .before .before .before .before .before .before .wide2 .ensures .0 in
+    let room = c .before .before .before .before .before .before .before .before .before .before .before .loop .inv .0 .room in
     omega arith
 
 add-at : tie.Need-add-at Inv-loop μ-loop
 add-at c =
-    let stands = outline-stands _ _ _ (next-outlined _ _ _ (c .before .before .before .before .before .before .before .before .before .before .before .before .before .loop-test .taken) (c .before .before .before .before .before .before .before .before .before .before .before .before .before .before .loop .inv .1) (sym (c .before .before .before .before .before .before .before .before .before .before .before .before .next-outline .ensures) ∙ ap fielded (c .before .before .before .before .before .before .before .before .before .before .f .given .1))) in
+    let row = left-row _ _ _ _ _ _ _ (c .before .before .before .before .before .before .before .before .before .before .before .before .before .before .loop .inv .0) (c .before .before .before .before .before .before .before .before .before .before .before .before .before .loop-test .taken) in
+    let before = row .0 in
+    let end = row .1 in
+    let kept = row .2 in
+    let first = c .before .before .before .before .before .before .before .before .before .before .before .wide .ensures .0 in
+    let size = c .before .before .before .before .before .before .before .before .before .wide2 .ensures .0 in
     omega arith
 
-sub-left : tie.Need-sub-left Inv-loop μ-loop
-sub-left c = search needs
+add-k : tie.Need-add-k Inv-loop μ-loop
+add-k c = search needs
 
 loop-less : tie.Need-loop-less Inv-loop μ-loop
 loop-less c = search needs
 
 loop-again : tie.Need-loop-again Inv-loop μ-loop
 loop-again c =
+    let first = c .before .before .before .before .before .before .before .before .before .before .before .wide .ensures .0 in
+    let size = c .before .before .before .before .before .before .before .before .before .wide2 .ensures .0 in
     let inv = c .before .before .before .before .before .before .before .before .before .before .before .before .before .before .loop .inv in
-    let outlined = (next-outlined _ _ _ (c .before .before .before .before .before .before .before .before .before .before .before .before .before .loop-test .taken) (c .before .before .before .before .before .before .before .before .before .before .before .before .before .before .loop .inv .1) (sym (c .before .before .before .before .before .before .before .before .before .before .before .before .next-outline .ensures) ∙ ap fielded (c .before .before .before .before .before .before .before .before .before .before .f .given .1))) in
-    let r = blank-turn _ _ _ _ (c .before .before .before .before .before .before .copy .last .1 .0) (c .before .before .wipe .last .0) _ _ _ (inv .0) (inv .1) (inv .2) (c .before .before .before .before .before .before .before .before .before .before .before .before .before .loop-test .taken) outlined (c .before .before .before .before .before .before .copy .ensures) (c .before .before .wipe .ensures) in
-    (r .0, r .1, omega arith, omega arith)
+    (left-turn _ _ _ _ _ _ _ (inv .0) (c .before .before .before .before .before .before .before .before .before .before .before .before .before .loop-test .taken) _ _ (c .before .before .before .before .before .before .copy .last .1 .0) (c .before .before .wipe .last .0) first size (c .before .before .before .before .before .before .copy .ensures) (c .before .before .wipe .ensures) (omega arith), omega arith)
 
-same-length-2 : tie.Need-same-length-2 Inv-loop μ-loop
-same-length-2 c = search needs
+same-length : tie.Need-same-length Inv-loop μ-loop
+same-length c = search needs
 
-returns-2 : tie.Need-returns-2 Inv-loop μ-loop
-returns-2 c = sym (blank-end _ _ _ _ _ _ (c .before .loop .inv .0) (c .before .loop .inv .1) (omega arith))
+returns : tie.Need-returns Inv-loop μ-loop
+returns c = left-end _ _ _ _ _ _ _ (c .before .loop .inv .0) (omega arith)
 
 pub blank-fields-spec : {M : Type 1} → statement M
 blank-fields-spec =
@@ -112,21 +159,24 @@ blank-fields-spec =
     Inv-loop
     μ-loop
     loop-holds
-    next-outline-requires
-    enum-told
-    same-length
-    returns
-    enum-known-f
+    mul-wide
+    add-wide
+    mul-wide-2
+    shared-slice-read-wide
+    wide-requires
+    mul-wide-3
+    add-wide-2
+    mul-wide-4
+    shared-slice-read-wide-2
+    wide-requires-2
     sub-copy
     part-copy-start
     part-copy-end
-    add-copy
     copy-requires
-    add-wipe
     wipe-requires
     add-at
-    sub-left
+    add-k
     loop-less
     loop-again
-    same-length-2
-    returns-2)
+    same-length
+    returns)

@@ -5,7 +5,7 @@ use mathlib.Core.Path.{sym, ap, _∙_}
 use Rattle.sim0mq.specs.Header.{countCodes}
 use Rattle.sim0mq.proofs.Rows.{count-scalar, count-not-boolean}
 use Rattle.sim0mq.proofs.HeaderLaws.{frame-scalar}
-use Rattle.payload.specs.Items.{fielded}
+use Rattle.fields.specs.Items.{fielded}
 use Rattle.items.proofs.NumberCases.{number-there}
 use Rattle.header.proofs.FrameCases.{declared-stop, declared-negative, declared-over, declared-fine}
 use Rattle.header.proofs.declared.Statement.{statement}

@@ -11,7 +11,7 @@ use lib.ListN.{length, take, length-set}
 use lib.Seq.{take-suc-set}
 use Rattle.sim0mq.specs.Field.{after}
 use Rattle.sim0mq.specs.Header as H
-use Rattle.payload.specs.Items.{fielded}
+use Rattle.fields.specs.Items.{fielded}
 use Rattle.header.specs.Frames.{counted, headerFrom, headerRest, shown, told}
 use Rattle.header.proofs.FrameCases.{frames-stop, frames-more, frames-last-stop, frames-last, frames-stored, frames-all, nth-goes, declared-goes}
 use Rattle.header.proofs.rest.Statement.{statement}

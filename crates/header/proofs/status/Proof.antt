@@ -5,7 +5,7 @@ use mathlib.Core.Path.{sym, ap, _∙_}
 use Rattle.sim0mq.specs.Header.{statusCodes}
 use Rattle.sim0mq.proofs.Rows.{status-scalar, status-not-boolean}
 use Rattle.sim0mq.proofs.HeaderLaws.{frame-scalar}
-use Rattle.payload.specs.Items.{fielded}
+use Rattle.fields.specs.Items.{fielded}
 use Rattle.header.proofs.FrameCases.{status-stop, status-low, status-high, status-fine}
 use Rattle.header.proofs.status.Statement.{statement}
 use Rattle.header.proofs.status.Tie as tie

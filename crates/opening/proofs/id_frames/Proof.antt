@@ -4,7 +4,7 @@ use native.Mathlib.Omega.{arith}
 use Prim.Native.Nat.{_-_}
 use mathlib.Core.Path.{_≡_, refl, sym, ap, _∙_}
 use Rattle.sim0mq.specs.Field.{after}
-use Rattle.payload.specs.Items.{fielded}
+use Rattle.fields.specs.Items.{fielded}
 use Rattle.opening.specs.Opening.{idsFrom}
 use Rattle.opening.proofs.HeaderCases.{ids-stop, ids-more, ids-over, ids-end, id-goes}
 use Rattle.opening.proofs.id_frames.Statement.{statement}

@@ -4,7 +4,7 @@ use mathlib.Core.Path.{refl, ap, ap₂, _∙_}
 use native.Mathlib.Omega.{arith}
 use Prim.Native.Nat.{ℕ}
 use lib.Dec.{ltb}
-use Rattle.payload.specs.Items.{seen}
+use Rattle.fields.specs.Items.{seen}
 use Rattle.sim0mq.specs.Answer.{fine}
 use Rattle.sim0mq.specs.Codes.{countsOf, markingOf, widthOf}
 use Rattle.kinds.specs.declared.Scalar.{Scalar}

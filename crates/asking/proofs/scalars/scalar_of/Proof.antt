@@ -5,7 +5,7 @@ use native.Mathlib.Omega.{arith}
 use mir.Syntax.{w8, w16, w32, w64}
 use mir.Val.{toZ, ofZ}
 use lib.IntN.{ℤ}
-use Rattle.payload.specs.Items.{seen}
+use Rattle.fields.specs.Items.{seen}
 use Rattle.sim0mq.specs.Answer.{fine}
 use Rattle.sim0mq.specs.Codes.{countsOf, widthOf}
 use Rattle.kinds.specs.declared.Scalar.{Scalar}

@@ -1,8 +1,8 @@
 -- Each case of the answer has its numbers.
 use borrow.Author.Needs.{needs}
 use mathlib.Core.Path.{sym, ap}
-use Rattle.payload.specs.Items.{fielded}
-use Rattle.payload.specs.declared.fields.Fielded.{Fielded}
+use Rattle.fields.specs.Items.{fielded}
+use Rattle.fields.specs.declared.Fielded.{Fielded}
 use Rattle.crossing.specs.Numbers.{viewNumbers}
 use Rattle.crossing.proofs.numbers.view_numbers.Statement.{statement}
 use Rattle.crossing.proofs.numbers.view_numbers.Tie as tie
