@@ -33,23 +33,6 @@ struct Opening {
     kind: usize,
 }
 
-// Whether a case with this line writes: the line is a call of the writer, or says what its state is or its output holds.
-pub fn writes(line: &[u8]) -> bool {
-    if starts(line, b"opens ") {
-        return true;
-    }
-    if starts(line, b"adds") {
-        return true;
-    }
-    if starts(line, b"state ") {
-        return true;
-    }
-    if starts(line, b"holds ") {
-        return true;
-    }
-    check::same(line, b"closes")
-}
-
 // The length of what the calls of these lines answer, put at the front of `out`: each opens with these ids, and the output has `room` bytes.
 pub fn answer(text: &[u8], ids: &[u8], room: usize, out: &mut [u8]) -> usize {
     let mut output = [BEFORE; ROOM];
