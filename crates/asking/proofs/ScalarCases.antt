@@ -8,9 +8,9 @@ use borrow.Author.Tests.{ne-eqb}
 use Rattle.sim0mq.specs.Answer.{refused, byte, big}
 use Rattle.sim0mq.specs.Codes.{countsOf, markingOf, widthOf}
 use Rattle.sim0mq.specs.Field.{Field}
-use Rattle.items.specs.Numbers.{numberAt}
-use Rattle.items.proofs.NumberCases.{number-there}
-use Rattle.items.proofs.MarkCases.{kind-money, kind-per}
+use Rattle.numbers.specs.Numbers.{numberAt}
+use Rattle.numbers.proofs.NumberCases.{number-there}
+use Rattle.marks.proofs.MarkCases.{kind-money, kind-per}
 use Rattle.kinds.specs.declared.Mark.{Mark}
 use Rattle.asking.specs.Scalars.{markOf, markAt, Standing, scalarOf}
 

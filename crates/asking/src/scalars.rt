@@ -5,7 +5,6 @@ ghost use lib.ListN.{length};
 ghost use Rattle.fields.specs.Items.{seen};
 ghost use Rattle.asking.specs.Scalars.{markAt, Standing, scalarOf, valued};
 use fields::Field;
-use items::numbers::number;
 use kinds::Mark;
 use kinds::Scalar;
 use kinds::double_of;
@@ -16,6 +15,7 @@ use kinds::i8_of;
 use kinds::i16_of;
 use kinds::i32_of;
 use kinds::i64_of;
+use numbers::number;
 use sim0mq::Refusal;
 
 pub enum Value {

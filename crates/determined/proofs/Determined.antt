@@ -21,13 +21,13 @@ use Rattle.fields.proofs.head.Reads as head
 use Rattle.fields.proofs.values.Reads as values
 use Rattle.fields.proofs.outline.Reads as outline
 use Rattle.payload.proofs.wide.Reads as kept-wide
-use Rattle.items.proofs.marks.mark.Reads as mark
-use Rattle.items.proofs.marks.marks.Reads as marks
-use Rattle.items.proofs.marks.currency_taken.Reads as currency-taken
-use Rattle.items.proofs.marks.display_taken.Reads as display-taken
-use Rattle.items.proofs.numbers.wide.Reads as wide
-use Rattle.items.proofs.numbers.number.Reads as number
-use Rattle.items.proofs.numbers.count.Reads as count
+use Rattle.marks.proofs.mark.Reads as mark
+use Rattle.marks.proofs.marks.Reads as marks
+use Rattle.marks.proofs.currency_taken.Reads as currency-taken
+use Rattle.marks.proofs.display_taken.Reads as display-taken
+use Rattle.numbers.proofs.wide.Reads as wide
+use Rattle.numbers.proofs.number.Reads as number
+use Rattle.numbers.proofs.count.Reads as count
 use Rattle.tables.proofs.counts.Reads as counts
 use Rattle.tables.proofs.marking.Reads as marking
 use Rattle.tables.proofs.width.Reads as width
@@ -152,7 +152,17 @@ last-result = equated last.Post (λ κs z e. z) _ (λ κs a z e p. p)
 pub per-result : Determines per.Post (λ κs z e. z)
 per-result = equated per.Post (λ κs z e. z) _ (λ κs a z e p. p)
 
--- The calls of crate items.
+-- The calls of crate numbers.
+pub wide-result : Determines wide.Post (λ κs z e. z)
+wide-result = equated wide.Post (λ κs z e. z) _ (λ κs a z e p. p .0)
+
+pub number-result : Determines number.Post (λ κs z e. z)
+number-result = equated number.Post (λ κs z e. z) _ (λ κs a z e p. p .0)
+
+pub count-result : Determines count.Post (λ κs z e. z)
+count-result = determined count.Post (λ κs z e. z) (λ κs. judged) (λ κs. judged-apart) _ (λ κs a z e p. p .0)
+
+-- The calls of crate marks.
 pub mark-result : Determines mark.Post (λ κs z e. z)
 mark-result = determined mark.Post (λ κs z e. z) (λ κs. judged) (λ κs. judged-apart) _ (λ κs a z e p. p)
 
@@ -164,15 +174,6 @@ currency-taken-result = equated currency-taken.Post (λ κs z e. z) _ (λ κs a 
 
 pub display-taken-result : Determines display-taken.Post (λ κs z e. z)
 display-taken-result = equated display-taken.Post (λ κs z e. z) _ (λ κs a z e p. p)
-
-pub wide-result : Determines wide.Post (λ κs z e. z)
-wide-result = equated wide.Post (λ κs z e. z) _ (λ κs a z e p. p .0)
-
-pub number-result : Determines number.Post (λ κs z e. z)
-number-result = equated number.Post (λ κs z e. z) _ (λ κs a z e p. p .0)
-
-pub count-result : Determines count.Post (λ κs z e. z)
-count-result = determined count.Post (λ κs z e. z) (λ κs. judged) (λ κs. judged-apart) _ (λ κs a z e p. p .0)
 
 -- The calls of crate fields.
 pub head-result : Determines head.Post (λ κs z e. z)

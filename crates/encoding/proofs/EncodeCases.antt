@@ -14,7 +14,7 @@ use mir.Syntax.{w64}
 use mir.Val.{Fits, boolByte}
 use Rattle.sim0mq.specs.Answer.{fine, refused}
 use Rattle.sim0mq.specs.Mark.{perRow, Kind, plain, money, moneyPer, unknown, kindOf, currencyTaken, displayTaken}
-use Rattle.items.proofs.MarkCases.{kind-plain, kind-between, kind-money, kind-per, kind-above}
+use Rattle.marks.proofs.MarkCases.{kind-plain, kind-between, kind-money, kind-per, kind-above}
 use Rattle.asking.specs.Bytes.{bigBytes, bitsOf, scalarBytes, bytesOfMark, markBytes}
 use Rattle.kinds.specs.declared.Mark.{Mark}
 use Rattle.kinds.specs.declared.Scalar.{Scalar}

@@ -7,8 +7,8 @@ ghost use Rattle.header.specs.Frames.{literalEnd, editionEnd, NoBoolean,
 use fields::Field;
 use fields::Fielded;
 use fields::outline;
-use items::numbers::number;
-use items::numbers::wide;
+use numbers::number;
+use numbers::wide;
 use sim0mq::Judged;
 use sim0mq::Refusal;
 

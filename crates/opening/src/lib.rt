@@ -8,7 +8,7 @@ ghost use Rattle.opening.specs.Opening.{idsFrom, headerWith, headerGiven
 ghost use Rattle.opening.specs.Judges.{numbersJudged, openingJudged};
 use fields::Fielded;
 use header::id;
-use items::numbers::wide;
+use numbers::wide;
 use puts::bits;
 use puts::put;
 use puts::put_number;

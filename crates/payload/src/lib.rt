@@ -7,7 +7,7 @@ ghost use lib.Seq.{sets};
 ghost use Rattle.sim0mq.specs.Payload.{moved};
 ghost use Rattle.sim0mq.specs.Table.{row};
 ghost use Rattle.sim0mq.specs.Views.{judged};
-ghost use Rattle.items.specs.Numbers.{Below};
+ghost use Rattle.numbers.specs.Numbers.{Below};
 ghost use Rattle.fields.specs.Items.{seen};
 ghost use Rattle.payload.specs.Parts.{partSteps, payloadSteps};
 ghost use Rattle.payload.specs.Kept.{Small, front, keptOne, keptAll, rowsIn, keptOf};
@@ -16,7 +16,7 @@ use fields::Field;
 use fields::Headed;
 use fields::head;
 use fields::values;
-use items::marks::mark;
+use marks::mark;
 use sim0mq::Judged;
 use sim0mq::Refusal;
 

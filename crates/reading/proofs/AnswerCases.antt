@@ -26,7 +26,7 @@ use Rattle.payload.specs.Parts.{payloadSteps}
 use Rattle.payload.specs.Kept.{keptOf}
 use Rattle.payload.proofs.PayloadCases.{at-stopped, at-taken}
 use Rattle.payload.proofs.KeptLaws.{payload-many, kept-rows}
-use Rattle.items.specs.Numbers.{Below}
+use Rattle.numbers.specs.Numbers.{Below}
 use Rattle.sim0mq.specs.declared.Judged.{Judged}
 use Rattle.sim0mq.specs.declared.Judged.the-variants.{Accepted as Judged·Accepted, Refused as Judged·Refused}
 use Rattle.sim0mq.specs.declared.Refusal.{Refusal}

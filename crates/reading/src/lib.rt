@@ -5,7 +5,7 @@ ghost use lib.ListN.{length, take};
 ghost use Rattle.sim0mq.specs.Answer.{refused};
 ghost use Rattle.sim0mq.specs.Table.{stored};
 ghost use Rattle.sim0mq.specs.Views.{judged};
-ghost use Rattle.items.specs.Numbers.{Below};
+ghost use Rattle.numbers.specs.Numbers.{Below};
 ghost use Rattle.payload.specs.Parts.{payloadSteps};
 ghost use Rattle.header.specs.Frames.{told};
 ghost use Rattle.sim0mq.specs.Message.{noTable, table as tableOf, enough as enoughOf, reading as readingOf, tableAfter};

@@ -1,8 +1,8 @@
 // What asking answers, as text: a line with the value of a field or the refusal, then a line with the bytes of the field's view.
 use asking::scalars::Value;
-use items::numbers::wide;
 use kinds::Mark;
 use kinds::Scalar;
+use numbers::wide;
 use pieces::number;
 use pieces::put;
 use reading::Reading;

@@ -4,7 +4,7 @@ use borrow.Author.Needs.{needs}
 use mathlib.Core.Path.{sym, ap, _∙_, subst}
 use Rattle.sim0mq.specs.declared.Judged.{Judged}
 use Rattle.sim0mq.specs.Views.{judged}
-use Rattle.items.specs.Numbers.{Below}
+use Rattle.numbers.specs.Numbers.{Below}
 use Rattle.fields.proofs.FieldCases.{head-short, head-over, head-none, head-stop, head-one, head-second, head-two}
 use Rattle.fields.proofs.head.Statement.{statement}
 use Rattle.fields.proofs.head.Tie as tie

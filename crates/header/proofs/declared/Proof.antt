@@ -6,7 +6,7 @@ use Rattle.sim0mq.specs.Header.{countCodes}
 use Rattle.sim0mq.proofs.Rows.{count-scalar, count-not-boolean}
 use Rattle.sim0mq.proofs.HeaderLaws.{frame-scalar}
 use Rattle.fields.specs.Items.{fielded}
-use Rattle.items.proofs.NumberCases.{number-there}
+use Rattle.numbers.proofs.NumberCases.{number-there}
 use Rattle.header.proofs.FrameCases.{declared-stop, declared-negative, declared-over, declared-fine}
 use Rattle.header.proofs.declared.Statement.{statement}
 use Rattle.header.proofs.declared.Tie as tie

@@ -13,7 +13,7 @@ use Rattle.sim0mq.specs.Views.{judged}
 use Rattle.fields.specs.Items.{headed}
 use Rattle.payload.specs.Parts.{stepsFrom, partSteps}
 use Rattle.payload.specs.Kept.{front, keptAll}
-use Rattle.items.proofs.MarkCases.{marks-done, marks-more, marks-stop}
+use Rattle.marks.proofs.MarkCases.{marks-done, marks-more, marks-stop}
 use Rattle.payload.proofs.PayloadCases.{mark-goes, head-goes, values-goes, field-head-stop, field-mark-stop, field-values-stop, field-taken, taken-end, field-small, steps-over, steps-end, steps-stop, steps-more}
 use Rattle.payload.proofs.KeptCases.{kept-start, kept-end, kept-stop, kept-more}
 use Rattle.payload.proofs.part.Statement.{statement}

@@ -7,7 +7,7 @@ use mathlib.Core.List.{List}
 use lib.ListN.{length, take, drop, length-drop}
 use Rattle.sim0mq.specs.Views.{judged}
 use Rattle.sim0mq.specs.declared.Judged.{Judged}
-use Rattle.items.specs.Numbers.{Below}
+use Rattle.numbers.specs.Numbers.{Below}
 use Rattle.payload.specs.Parts.{partSteps}
 use Rattle.payload.proofs.PayloadCases.{part-all, refused-within, at-short, at-refused, at-accepted}
 use Rattle.payload.proofs.KeptCases.{rows-room, rows-some, kept-none, kept-part}

@@ -2,7 +2,7 @@
 use borrow.Author.Needs.{needs}
 use mathlib.Core.Path.{sym, ap}
 use Rattle.asking.specs.Scalars.{markOf}
-use Rattle.items.proofs.MarkCases.{kind-plain, kind-between, kind-above}
+use Rattle.marks.proofs.MarkCases.{kind-plain, kind-between, kind-above}
 use Rattle.asking.proofs.ScalarCases.{mark-money, mark-per}
 use native.Mathlib.Omega.{arith}
 use Rattle.asking.proofs.scalars.mark_at.Statement.{statement}

@@ -1,2 +1,0 @@
-pub mod NumberCases
-pub mod MarkCases

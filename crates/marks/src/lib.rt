@@ -1,0 +1,100 @@
+// Unit marks.
+ghost use mathlib.Core.Path.{_≡_};
+ghost use Prim.Native.Nat.{_<_};
+ghost use Rattle.sim0mq.specs.Mark.{currencyTaken, displayTaken, currency as currencyOf, display as displayOf, mark as markOf, marks as marksOf};
+ghost use Rattle.sim0mq.specs.Views.{judged};
+use numbers::number;
+use numbers::wide;
+use sim0mq::Judged;
+use tables::last;
+use tables::per;
+
+// Whether c is a currency code.
+pub fn currency_taken(c: usize) -> bool
+    ensures { λ r. ⌜ r ≡ currencyTaken c ⌝ }
+{
+    if c < 1 { false } else { c <= 1000 }
+}
+
+// Whether d is a display code of unit type t.
+pub fn display_taken(t: usize, d: u8) -> bool
+    ensures { λ r. ⌜ r ≡ displayTaken t d ⌝ }
+{
+    wide(d) <= last(t)
+}
+
+// The currency code at `at`: the place after it.
+fn currency(s: &[u8], at: usize) -> Judged
+    ensures { λ r. ⌜ judged r ≡ currencyOf (now (s .entry)) at ⌝ }
+{
+    if s.len() <= at {
+        return sim0mq::refuse(1, s.len());
+    }
+    if s.len() - at < 2 {
+        return sim0mq::refuse(1, s.len());
+    }
+    if currency_taken(number(s, at, 2)) {
+        return Judged::Accepted(at + 2);
+    }
+    sim0mq::refuse(12, at)
+}
+
+// The display code of unit type t at `at`: the place after it.
+fn display(s: &[u8], t: usize, at: usize) -> Judged
+    requires { ⌜ t < 29 ⌝ }
+    ensures { λ r. ⌜ judged r ≡ displayOf (now (s .entry)) t at ⌝ }
+{
+    if s.len() <= at {
+        return sim0mq::refuse(1, s.len());
+    }
+    if display_taken(t, s[at]) {
+        return Judged::Accepted(at + 1);
+    }
+    sim0mq::refuse(12, at)
+}
+
+// The mark at `at`: the place after it.
+pub fn mark(s: &[u8], at: usize) -> Judged
+    ensures { λ r. ⌜ judged r ≡ markOf (now (s .entry)) at ⌝ }
+{
+    if s.len() <= at {
+        return sim0mq::refuse(1, s.len());
+    }
+    let u = wide(s[at]);
+    if u <= 28 {
+        return display(s, u, at + 1);
+    }
+    if u <= 99 {
+        return sim0mq::refuse(11, at);
+    }
+    if u == 100 {
+        return currency(s, at + 1);
+    }
+    if 106 < u {
+        return sim0mq::refuse(11, at);
+    }
+    match currency(s, at + 1) {
+        Judged::Accepted(p) => display(s, per(u - 101), p),
+        Judged::Refused(r) => Judged::Refused(r),
+    }
+}
+
+// The n marks from `at` on: the place after them.
+pub fn marks(s: &[u8], n: usize, at: usize) -> Judged
+    ensures { λ r. ⌜ judged r ≡ marksOf (now (s .entry)) n at ⌝ }
+{
+    let mut left = n;
+    let mut p = at;
+    while 0 < left {
+        match mark(s, p) {
+            Judged::Refused(r) => {
+                return Judged::Refused(r);
+            }
+            Judged::Accepted(q) => {
+                p = q;
+            }
+        }
+        left -= 1;
+    }
+    Judged::Accepted(p)
+}
