@@ -1,4 +1,4 @@
-// What has been run of a case file, and what each line of a case but its end adds to it.
+// What has been run of a case file, what each line of a case adds to it, and how a case ends, given what it was answered with.
 use copies::ROOM;
 use libc::STDOUT_FILENO;
 use lines::find;
@@ -8,7 +8,7 @@ use lines::starts;
 use lines::tokens;
 
 // How many numbers a table has at most, and has where a case does not say.
-pub const NUMBERS: usize = 1280;
+const NUMBERS: usize = 1280;
 
 // What has been run so far, and the case that is being read.
 pub struct Run {
@@ -273,6 +273,48 @@ fn gives(line: &[u8], run: Run, expected: &mut [u8]) -> Run {
     }
     let mut after = run;
     after.expects = at;
+    after
+}
+
+// The length of the listing of `message`, put at the front of `out`: its first line alone where the case lends no table.
+pub fn listed(run: Run, message: &[u8], out: &mut [u8]) -> usize {
+    if !run.lends {
+        let judged = reading::judge(message);
+        let said = judged.said;
+        return listing::first_line(said, out);
+    }
+    let mut table = [0u32; NUMBERS];
+    let room = run.room;
+    if room <= NUMBERS {
+        return tabled(message, &mut table[0..room], out);
+    }
+    0
+}
+
+// The length of the listing of `message`, read with this table.
+fn tabled(message: &[u8], table: &mut [u32], out: &mut [u8]) -> usize {
+    let read = reading::read(message, table);
+    let said = read.said;
+    listing::listing(said, table, out)
+}
+
+// The run after the end of a case that was answered with `given`. Where that is empty, or not the text that the case expects, the case is wrong, and its
+// name and the answer are printed.
+pub fn ended(text: &[u8], run: Run, given: &[u8], expected: &[u8]) -> Run {
+    let mut after = run;
+    after.begun = false;
+    after.cases = next(run.cases);
+    if 0 < given.len() {
+        if check::same(given, part(expected, 0, run.expects)) {
+            return after;
+        }
+    }
+    let line = part(text, run.name_from, run.name_to);
+    io::write_all(STDOUT_FILENO, b"wrong: ");
+    io::write_all(STDOUT_FILENO, part(line, 5, line.len()));
+    io::write_all(STDOUT_FILENO, b"\n");
+    io::write_all(STDOUT_FILENO, given);
+    after.wrong = next(run.wrong);
     after
 }
 

@@ -1,9 +1,7 @@
 // Runs the cases of cases.txt and prints each that goes wrong, then how many there are and how many of them are wrong.
 use libc::STDERR_FILENO;
-use libc::STDOUT_FILENO;
 use lines::find;
 use lines::part;
-use runs::NUMBERS;
 use runs::Run;
 use runs::next;
 use texts::rewrites;
@@ -27,26 +25,11 @@ fn end(text: &[u8], run: Run, message: &[u8], expected: &[u8]) -> Run {
     let own = part(message, 0, run.length);
     let answered = answer(run, part(text, run.name_to, run.from), own, &mut told);
     let n = rewrites::answer(own, &mut told, answered);
-    let given = part(&told, 0, n);
-    let mut after = run;
-    after.begun = false;
-    after.cases = next(run.cases);
-    if 0 < n {
-        if check::same(given, part(expected, 0, run.expects)) {
-            return after;
-        }
-    }
-    let line = part(text, run.name_from, run.name_to);
-    io::write_all(STDOUT_FILENO, b"wrong: ");
-    io::write_all(STDOUT_FILENO, part(line, 5, line.len()));
-    io::write_all(STDOUT_FILENO, b"\n");
-    io::write_all(STDOUT_FILENO, given);
-    after.wrong = next(run.wrong);
-    after
+    runs::ended(text, run, part(&told, 0, n), expected)
 }
 
 // The length of the answer of the case that has these lines, put at the front of `out`: of what asking, blanking or writing answers, or of the listing
-// of `message`, its first line alone where the case lends no table.
+// of `message`.
 fn answer(run: Run, text: &[u8], message: &[u8], out: &mut [u8]) -> usize {
     if run.asks {
         return values::answer(message, run.field, out);
@@ -57,24 +40,7 @@ fn answer(run: Run, text: &[u8], message: &[u8], out: &mut [u8]) -> usize {
     if run.writes {
         return calls::answer(text, message, run.output, out);
     }
-    if !run.lends {
-        let judged = reading::judge(message);
-        let said = judged.said;
-        return listing::first_line(said, out);
-    }
-    let mut table = [0u32; NUMBERS];
-    let room = run.room;
-    if room <= NUMBERS {
-        return tabled(message, &mut table[0..room], out);
-    }
-    0
-}
-
-// The length of the listing of `message`, read with this table.
-fn tabled(message: &[u8], table: &mut [u32], out: &mut [u8]) -> usize {
-    let read = reading::read(message, table);
-    let said = read.said;
-    listing::listing(said, table, out)
+    runs::listed(run, message, out)
 }
 
 // The run of every line of `text`.
