@@ -1,19 +1,19 @@
 -- Field k is the one whose row is kept: the fields before it are passed over, and after it there is no row left. The row tells all of the field, since its values
 -- are as many as its bytes make.
-use Prim.Native.Nat.{ℕ, zero, suc, _+_, _-_, _*_, _/_, _≤_, _<_, zero-le}
+use Prim.Native.Nat.{ℕ, zero, suc, _+_, _-_, _*_, _/_, _≤_, _<_}
 use mathlib.Core.Path.{_≡_, refl, ap, ap₂, sym, _∙_, subst}
 use mathlib.Core.List.{List, [], _∷_, _++_, append-nil, map}
 use native.Mathlib.Omega.{arith}
 use native.Mathlib.Nat.{mul-div-cancel}
 use lib.ListN.{length, getD, drop, drop-of-length-le, length-map}
 use lib.Seq.{sets, sets-eq}
-use Rattle.sim0mq.specs.Answer.{Answer, fine, refused}
+use Rattle.sim0mq.specs.Answer.{fine, refused}
 use Rattle.sim0mq.specs.Codes.{widthOf}
 use Rattle.sim0mq.specs.Field.{Field, after}
 use Rattle.sim0mq.specs.Payload.{payloadFrom, payload, moved}
 use Rattle.sim0mq.specs.Header.{Header}
 use Rattle.sim0mq.specs.Table.{row as rowOf}
-use Rattle.sim0mq.specs.Message.{noTable, reading}
+use Rattle.sim0mq.specs.Message.{noTable}
 use Rattle.sim0mq.proofs.Answers.{fine-eq, not-fine}
 use Rattle.fields.proofs.FieldCases.{width-positive}
 use Rattle.payload.specs.Parts.{payloadSteps}

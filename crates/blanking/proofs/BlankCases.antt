@@ -4,20 +4,20 @@ use mathlib.Core.Path.{_≡_, refl, ap, ap₂, sym, _∙_, subst}
 use mathlib.Core.List.{List, [], _∷_, _++_, append-assoc, map}
 use native.Mathlib.Omega.{arith}
 use lib.ListN.{length, getD, take, drop, replicate, length-append, length-drop, length-map}
-use lib.Seq.{take-append-le, drop-append-le, drop-drop, drop-at, getD-drop}
+use lib.Seq.{take-append-le, drop-append-le, drop-drop, getD-drop}
 use lib.Dec.{leb}
 use borrow.Author.Tests.{le-leb, lt-leb, leb-true}
-use Rattle.sim0mq.specs.Answer.{Answer, fine, refused, _>>=_, partAt}
+use Rattle.sim0mq.specs.Answer.{Answer, fine, refused, partAt}
 use Rattle.sim0mq.specs.Field.{Field, after}
 use Rattle.sim0mq.specs.Header.{Header}
 use Rattle.sim0mq.specs.Payload.{payloadFrom, payload, moved}
-use Rattle.sim0mq.specs.Message.{limit, noTable, readingOf, reading}
+use Rattle.sim0mq.specs.Message.{limit, noTable, reading}
 use Rattle.sim0mq.specs.Table.{row, rows, rowSize, stored, placed}
 use Rattle.sim0mq.specs.Blank.{zeroed, blanked, blanking, outputAfter}
 use Rattle.sim0mq.specs.Allowed.{Each, none, more}
 use Rattle.sim0mq.proofs.BlankLaws.{Inside, inside-to, zeroed-long, blanked-long}
 use Rattle.sim0mq.proofs.Answers.{fine-eq, bind-fine, guarded}
-use Rattle.sim0mq.proofs.Demand3.{inside, copy-is-blank}
+use Rattle.sim0mq.proofs.Demand3.{copy-is-blank}
 use Rattle.payload.specs.Parts.{payloadSteps}
 use Rattle.payload.specs.Kept.{keptOf}
 use Rattle.payload.proofs.PayloadCases.{field-goes, at-stopped, at-taken}

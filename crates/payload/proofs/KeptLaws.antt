@@ -1,12 +1,12 @@
 -- Of an accepted payload all that was asked for is kept: its fields are those before the first fault, and rows stored one after the other are all stored.
 use Prim.Native.Nat.{ℕ, zero, suc, _+_, _*_, _-_, _/_, _≤_, _<_, zero-le}
-use mathlib.Core.Path.{_≡_, refl, ap, sym, _∙_, subst}
+use mathlib.Core.Path.{_≡_, refl, ap, sym, _∙_}
 use mathlib.Core.Bool.{Bool, true, false}
 use mathlib.Core.List.{List, [], _∷_, _++_, append-assoc, map}
 use native.Mathlib.Omega.{arith}
 use native.Mathlib.Nat.{add-zero, zero-add, le-div-iff-mul-le}
 use lib.ListN.{length, take, drop, length-append, length-map, take-append-drop}
-use lib.Seq.{length-take-le, take-at, drop-drop, drop-append-add, sets, length-sets, sets-eq}
+use lib.Seq.{length-take-le, take-at, drop-drop, drop-append-add, sets, sets-eq}
 use lib.Dec.{leb, lit<}
 use Rattle.sim0mq.specs.Answer.{fine, _>>=_, _>>_, guard}
 use Rattle.sim0mq.specs.Field.{Field, field, after}

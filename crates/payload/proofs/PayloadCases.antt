@@ -1,15 +1,13 @@
 -- How the payload judge goes on from a place, case by case, with the steps counted so far: what the two loops of the code cite.
 use Prim.Native.Nat.{ℕ, zero, suc, _+_, _-_, _*_, _≤_, _<_, zero-le}
 use mathlib.Core.Path.{_≡_, refl, ap, sym, _∙_, subst}
-use mathlib.Core.Bool.{Bool, true, false}
 use mathlib.Core.List.{List, _∷_}
 use native.Mathlib.Omega.{arith}
 use native.Mathlib.Numerals.{add-one}
 use native.Mathlib.Nat.{add-zero, zero-add}
 use lib.ListN.{length, take, drop, length-drop}
 use lib.Seq.{take-all}
-use lib.Dec.{leb, eqb}
-use borrow.Author.Tests.{le-leb, lt-leb, leb-true, eqb-true, eqb-false}
+use borrow.Author.Tests.{le-leb, lt-leb, leb-true}
 use Rattle.sim0mq.specs.Answer.{Answer, fine, refused, _>>=_, need, byte, partAt}
 use Rattle.sim0mq.specs.Codes.{codeKnown, countsOf, widthOf}
 use Rattle.sim0mq.specs.Mark.{mark, marks}

@@ -21,7 +21,7 @@ use sim0mq::Judged;
 use sim0mq::Refusal;
 
 // The most bytes that a message has.
-const LIMIT: usize = 32768;
+pub const LIMIT: usize = 32768;
 
 // Stores the five numbers of a field of a part that begins at place `base`, from place i on.
 fn store(kept: &mut [u16], i: usize, base: usize, f: Field)

@@ -14,6 +14,7 @@ ghost use Rattle.reading.specs.Rows.{Fillable, filled};
 use header::Frame;
 use header::Said;
 use header::header;
+use payload::LIMIT;
 use payload::payload;
 use payload::wide;
 use sim0mq::Judged;
@@ -42,9 +43,6 @@ pub enum Lent {
     NoTable,
     Table(usize),
 }
-
-// The most bytes that a message has.
-const LIMIT: usize = 32768;
 
 // Whether there is room for n fields.
 fn enough(lent: Lent, n: usize) -> bool

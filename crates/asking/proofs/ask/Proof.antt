@@ -1,5 +1,4 @@
 -- The message is judged whole; then there is no field k, or its row was kept.
-use native.Mathlib.Omega.{arith}
 use mathlib.Core.Path.{refl, sym, ap, _∙_}
 use Rattle.sim0mq.specs.Answer.{fine}
 use Rattle.sim0mq.specs.Views.{judged}

@@ -1,5 +1,4 @@
 -- What stands before the payload and what its reader says are the answer.
-use native.Mathlib.Omega.{arith}
 use mathlib.Core.Path.{sym, ap, _∙_}
 use Rattle.header.specs.declared.Answer.{Answer}
 use Rattle.reading.specs.Answers.{answerOf}

@@ -1,5 +1,4 @@
 -- What stands before the payload and what its reader says are the answer; the rows are stored only where both accept, and are those of the message.
-use native.Mathlib.Omega.{arith}
 use mathlib.Core.Path.{refl, sym, ap, _∙_}
 use Rattle.header.specs.declared.Answer.{Answer}
 use Rattle.reading.specs.Answers.{answerOf}
