@@ -120,6 +120,15 @@ module _ (s kept all out : List ℕ) (n at i : ℕ) where
           let room = t .2 in
           (omega arith, omega arith, omega arith)
 
+  -- with the numbers that the code has of it
+  pub left-stands : Left s kept all out n at i → i < n → (first size : ℕ) → first ≡ getD kept (5 * i + 2) 0 → size ≡ getD kept (5 * i + 3) 0
+      → (at ≤ first) × (first + size ≤ length s) × (length s ≤ length out)
+  left-stands l h first size p q =
+      let r = left-row l h in
+      let before = r .0 in
+      let end = r .1 in
+      (omega arith, omega arith, l .room)
+
   pub left-turn : Left s kept all out n at i → i < n → (first size : ℕ) (copied next : List ℕ)
       → first ≡ getD kept (5 * i + 2) 0 → size ≡ getD kept (5 * i + 3) 0
       → copied ≡ placed out at (take (first - at) (drop at s)) → next ≡ zeroed copied first size → length next ≡ length out

@@ -7,7 +7,7 @@ use lib.Seq.{length-take-le}
 use Rattle.sim0mq.specs.Blank.{blanked}
 use Rattle.sim0mq.specs.Table.{placed}
 use Rattle.blanking.specs.Blanking.{fieldsOf}
-use Rattle.blanking.proofs.BlankCases.{Left, left-start, left-row, left-turn, left-end}
+use Rattle.blanking.proofs.BlankCases.{Left, left-start, left-row, left-stands, left-turn, left-end}
 use borrow.Author.Needs.{needs}
 use Rattle.blanking.proofs.blank_fields.Statement.{statement}
 use Rattle.blanking.proofs.blank_fields.Tie as tie
@@ -70,43 +70,25 @@ wide-requires-2 c κs = search needs
 
 sub-copy : tie.Need-sub-copy Inv-loop μ-loop
 sub-copy c =
-    let row = left-row _ _ _ _ _ _ _ (c .before .before .before .before .before .loop .inv .0) (c .before .before .before .before .loop-test .taken) in
-    let before = row .0 in
-    let end = row .1 in
-    let kept = row .2 in
-    let first = c .before .before .wide .ensures .0 in
-    let size = c .wide2 .ensures .0 in
+    let before = left-stands _ _ _ _ _ _ _ (c .before .before .before .before .before .loop .inv .0) (c .before .before .before .before .loop-test .taken) _ _ (c .before .before .wide .ensures .0) (c .wide2 .ensures .0) .0 in
     omega arith
 
 part-copy-start : tie.Need-part-copy-start Inv-loop μ-loop
 part-copy-start c =
-    let row = left-row _ _ _ _ _ _ _ (c .before .before .before .before .before .loop .inv .0) (c .before .before .before .before .loop-test .taken) in
-    let before = row .0 in
-    let end = row .1 in
-    let kept = row .2 in
-    let first = c .before .before .wide .ensures .0 in
-    let size = c .wide2 .ensures .0 in
+    let before = left-stands _ _ _ _ _ _ _ (c .before .before .before .before .before .loop .inv .0) (c .before .before .before .before .loop-test .taken) _ _ (c .before .before .wide .ensures .0) (c .wide2 .ensures .0) .0 in
     omega arith
 
 part-copy-end : tie.Need-part-copy-end Inv-loop μ-loop
 part-copy-end c =
-    let row = left-row _ _ _ _ _ _ _ (c .before .before .before .before .before .loop .inv .0) (c .before .before .before .before .loop-test .taken) in
-    let before = row .0 in
-    let end = row .1 in
-    let kept = row .2 in
-    let first = c .before .before .wide .ensures .0 in
-    let size = c .wide2 .ensures .0 in
+    let end = left-stands _ _ _ _ _ _ _ (c .before .before .before .before .before .loop .inv .0) (c .before .before .before .before .loop-test .taken) _ _ (c .before .before .wide .ensures .0) (c .wide2 .ensures .0) .1 in
     omega arith
 
 copy-requires : tie.Need-copy-requires Inv-loop μ-loop
 copy-requires c κs =
-    let row = left-row _ _ _ _ _ _ _ (c .before .before .before .before .before .before .before .loop .inv .0) (c .before .before .before .before .before .before .loop-test .taken) in
-    let before = row .0 in
-    let end = row .1 in
-    let kept = row .2 in
-    let first = c .before .before .before .before .wide .ensures .0 in
-    let size = c .before .before .wide2 .ensures .0 in
-    let room = c .before .before .before .before .before .before .before .loop .inv .0 .room in
+    let stands = left-stands _ _ _ _ _ _ _ (c .before .before .before .before .before .before .before .loop .inv .0) (c .before .before .before .before .before .before .loop-test .taken) _ _ (c .before .before .before .before .wide .ensures .0) (c .before .before .wide2 .ensures .0) in
+    let before = stands .0 in
+    let end = stands .1 in
+    let room = stands .2 in
     let s = c .before .before .before .before .before .before .before .before .before .before .before .args .message .now in
     let at = c .before .before .before .before .before .before .before .loop .at in
     let part = length-take-le (c .before .before .before .before .wide .result - at) (drop at s) (omega (arith, length-drop at s)) in
@@ -114,23 +96,14 @@ copy-requires c κs =
 
 wipe-requires : tie.Need-wipe-requires Inv-loop μ-loop
 wipe-requires c κs =
-    let row = left-row _ _ _ _ _ _ _ (c .before .before .before .before .before .before .before .before .before .before .before .loop .inv .0) (c .before .before .before .before .before .before .before .before .before .before .loop-test .taken) in
-    let before = row .0 in
-    let end = row .1 in
-    let kept = row .2 in
-    let first = c .before .before .before .before .before .before .before .before .wide .ensures .0 in
-    let size = c .before .before .before .before .before .before .wide2 .ensures .0 in
-    let room = c .before .before .before .before .before .before .before .before .before .before .before .loop .inv .0 .room in
+    let stands = left-stands _ _ _ _ _ _ _ (c .before .before .before .before .before .before .before .before .before .before .before .loop .inv .0) (c .before .before .before .before .before .before .before .before .before .before .loop-test .taken) _ _ (c .before .before .before .before .before .before .before .before .wide .ensures .0) (c .before .before .before .before .before .before .wide2 .ensures .0) in
+    let end = stands .1 in
+    let room = stands .2 in
     omega arith
 
 add-at : tie.Need-add-at Inv-loop μ-loop
 add-at c =
-    let row = left-row _ _ _ _ _ _ _ (c .before .before .before .before .before .before .before .before .before .before .before .before .before .before .loop .inv .0) (c .before .before .before .before .before .before .before .before .before .before .before .before .before .loop-test .taken) in
-    let before = row .0 in
-    let end = row .1 in
-    let kept = row .2 in
-    let first = c .before .before .before .before .before .before .before .before .before .before .before .wide .ensures .0 in
-    let size = c .before .before .before .before .before .before .before .before .before .wide2 .ensures .0 in
+    let end = left-stands _ _ _ _ _ _ _ (c .before .before .before .before .before .before .before .before .before .before .before .before .before .before .loop .inv .0) (c .before .before .before .before .before .before .before .before .before .before .before .before .before .loop-test .taken) _ _ (c .before .before .before .before .before .before .before .before .before .before .before .wide .ensures .0) (c .before .before .before .before .before .before .before .before .before .wide2 .ensures .0) .1 in
     omega arith
 
 add-k : tie.Need-add-k Inv-loop μ-loop

@@ -27,26 +27,22 @@ same-length c = search needs
 
 returns : tie.Need-returns
 returns c =
-    let header = c .before .before .before .before .before .write-header .ensures in
-    let code = c .before .before .before .before .before .before .before .code-of .ensures in
     let start = c .before .before .before .before .before .before .before .before .before .before in
     let a = start .args in
     let o = asksFor (a .ids .now) (a .number) (a .status) (a .fields) (a .kind) in
     let number = toZ-ofZ w64 (a .number) (start .fits .number) in
-    opening-refused o (a .out .now) _ (length (a .out .now)) _ _ code number (header .1) _ _ (sym (ap judged (c .before .r .given .1)) ∙ header .0)
+    opening-refused o (a .out .now) _ (length (a .out .now)) _ _ (c .before .before .before .before .before .before .before .code-of .ensures) number (c .before .before .before .before .before .write-header .ensures .1) _ _ (sym (ap judged (c .before .r .given .1)) ∙ c .before .before .before .before .before .write-header .ensures .0)
 
 same-length-2 : tie.Need-same-length-2
 same-length-2 c = search needs
 
 returns-2 : tie.Need-returns-2
 returns-2 c =
-    let header = c .before .before .before .before .before .write-header .ensures in
-    let code = c .before .before .before .before .before .before .before .code-of .ensures in
     let start = c .before .before .before .before .before .before .before .before .before .before in
     let a = start .args in
     let o = asksFor (a .ids .now) (a .number) (a .status) (a .fields) (a .kind) in
     let number = toZ-ofZ w64 (a .number) (start .fits .number) in
-    opening-granted o (a .out .now) _ (length (a .out .now)) _ _ code number (header .1) _ (sym (ap judged (c .before .n .given .1)) ∙ header .0)
+    opening-granted o (a .out .now) _ (length (a .out .now)) _ _ (c .before .before .before .before .before .before .before .code-of .ensures) number (c .before .before .before .before .before .write-header .ensures .1) _ (sym (ap judged (c .before .n .given .1)) ∙ c .before .before .before .before .before .write-header .ensures .0)
 
 pub open-spec : {M : Type 1} → statement M
 open-spec =
