@@ -64,8 +64,8 @@ fn refuse(number: u32, place: usize) -> Answer
     }
 }
 
-// The header of the message, once the message's length is judged, and before the table's room is: its end and the declared number of fields, with the frames;
-// or the refusal, with no frames.
+// What stands before the payload: the message's length is judged, then its header, then the table's room. The header's end and the declared number of fields,
+// with the frames; or the refusal, with no frames.
 pub fn opened(message: &[u8], lent: Lent) -> header::Answer
     ensures { λ r. ⌜ r ≡ told noFrames (opening (lentOf lent) (now (message .entry))) ⌝ }
 {
