@@ -1,19 +1,19 @@
 -- How the field judges answer, case by case, in the words of the code's tests.
 use Prim.Native.Nat.{ℕ, zero, suc, _+_, _-_, _*_, _/_, _≤_, _<_}
 use mathlib.Core.Path.{_≡_, refl, ap, sym, _∙_, subst}
-use mathlib.Core.Bool.{Bool, true, false}
+use mathlib.Core.Bool.{Bool, true, false, _||_}
 use mathlib.Core.List.{List}
 use native.Mathlib.Omega.{arith}
 use native.Mathlib.Numerals.{add-one}
 use native.Mathlib.Nat.{add-zero, mul-zero, not-suc-le-zero, le-div-iff-mul-le, mul-le-mul, lt-of-le-of-lt}
 use lib.ListN.{length, getD, List·getD-eq-default}
 use lib.Dec.{leb, eqb, lit<}
-use borrow.Author.Tests.{eqb-true, eqb-false, leb-true, leb-false, le-leb, lt-leb}
+use borrow.Author.Tests.{eqb-true, eqb-false, leb-true, leb-false, le-leb, lt-leb, ne-eqb}
 use Rattle.sim0mq.specs.Answer.{Answer, fine, refused, _>>=_, need, byte}
 use Rattle.sim0mq.specs.Codes.{codeKnown, widthRow, countsOf, widthOf, boolean}
 use Rattle.sim0mq.specs.Mark.{marks}
 use Rattle.sim0mq.specs.Field.{count, counts, markCount, Head, headOf, headRest, head, booleans, booleansOf, outline}
-use Rattle.fields.specs.Items.{askedFor, sizeAt, NoneAbove, booleansEnd, valuesEnd}
+use Rattle.fields.specs.Items.{askedFor, sizeOf, sizeAt, NoneAbove, booleansEnd, valuesEnd}
 use Rattle.sim0mq.proofs.Answers.{not-fine, fine-eq, needed-bind}
 use Rattle.sim0mq.proofs.Rows.{allPass, pass-at}
 
@@ -97,39 +97,47 @@ pub width-positive : (c : ℕ) → c ≤ 32 → 1 ≤ widthOf c
 unfolding allPass widthOf
 width-positive c h = leb-true 1 _ (pass-at (λ (w : ℕ). leb 1 w) widthRow c refl (omega arith))
 
+-- every width is 1, 2, 4 or 8
+isWidth : ℕ → Bool
+isWidth w = eqb w 1 || (eqb w 2 || (eqb w 4 || eqb w 8))
+
+pub width-eight : (c w : ℕ) → c ≤ 32 → w ≡ widthOf c → (w ≡ 1 → ⊥) → (w ≡ 2 → ⊥) → (w ≡ 4 → ⊥) → 8 ≡ widthOf c
+unfolding allPass widthOf isWidth
+width-eight c w h q n1 n2 n4 =
+    let e : isWidth w ≡ true = ap isWidth q ∙ pass-at isWidth widthRow c refl (omega arith) in
+    sym (eqb-true w 8 (simp (ne-eqb w 1 n1, ne-eqb w 2 n2, ne-eqb w 4 n4) at e)) ∙ q
+
 -- sizes of values
-module _ (s : List ℕ) (c n first : ℕ) where
-  size-over : length s < first + n * widthOf c → sizeAt s c n first ≡ refused 1 (length s)
-  unfolding sizeAt
-  size-over h = simp (lt-leb (first + n * widthOf c) (length s) h)
+module _ (s : List ℕ) (w n first : ℕ) where
+  size-over : length s < first + n * w → sizeOf s w n first ≡ refused 1 (length s)
+  unfolding sizeOf
+  size-over h = simp (lt-leb (first + n * w) (length s) h)
 
-  size-within : first + n * widthOf c ≤ length s → sizeAt s c n first ≡ fine (n * widthOf c)
-  unfolding sizeAt
-  size-within h = simp (le-leb (first + n * widthOf c) (length s) h)
+  pub size-within : first + n * w ≤ length s → sizeOf s w n first ≡ fine (n * w)
+  unfolding sizeOf
+  size-within h = simp (le-leb (first + n * w) (length s) h)
 
-  pub size-past : length s < first → sizeAt s c n first ≡ refused 1 (length s)
+  pub size-past : length s < first → sizeOf s w n first ≡ refused 1 (length s)
   size-past h = size-over (omega arith)
 
-  -- a code that is none has no width
-  pub size-of-none : 32 < c → first ≤ length s → sizeAt s c n first ≡ fine 0
-  unfolding widthOf
-  size-of-none h k =
-      let w : getD widthRow c 0 ≡ 0 = List·getD-eq-default widthRow 0 {n = c} (omega arith) in
-      let z : n * getD widthRow c 0 ≡ 0 = rw w (mul-zero n) in
-      size-within (omega arith) ∙ ap fine z
+  -- the test of the room left
+  pub size-fits : first ≤ length s → leb (n * w) (length s - first) ≡ true → sizeOf s w n first ≡ fine (n * w)
+  size-fits k e = let h : n * w ≤ length s - first = leb-true _ _ e in size-within (omega arith)
 
-  -- the test of the room left, for a width that is w
-  pub size-fits : (w : ℕ) → w ≡ widthOf c → first ≤ length s → leb (n * w) (length s - first) ≡ true → sizeAt s c n first ≡ fine (n * w)
-  size-fits w q k e =
-      let h : n * w ≤ length s - first = leb-true _ _ e in
-      let z : n * widthOf c ≡ n * w = ap (λ (x : ℕ). n * x) (sym q) in
-      size-within (omega arith) ∙ ap fine z
+  pub size-short : first ≤ length s → leb (n * w) (length s - first) ≡ false → sizeOf s w n first ≡ refused 1 (length s)
+  size-short k e = let h : length s - first < n * w = leb-false _ _ e in size-over (omega arith)
 
-  pub size-short : (w : ℕ) → w ≡ widthOf c → first ≤ length s → leb (n * w) (length s - first) ≡ false → sizeAt s c n first ≡ refused 1 (length s)
-  size-short w q k e =
-      let h : length s - first < n * w = leb-false _ _ e in
-      let z : n * widthOf c ≡ n * w = ap (λ (x : ℕ). n * x) (sym q) in
-      size-over (omega arith)
+-- the width of a code, told by a test
+pub size-told : (s : List ℕ) (c n first : ℕ) {x : ℕ} → x ≡ widthOf c → sizeOf s x n first ≡ sizeAt s c n first
+size-told s c n first q = ap (λ (w : ℕ). sizeOf s w n first) q
+
+-- a code that is none has no width
+pub size-of-none : (s : List ℕ) (c n first : ℕ) → 32 < c → first ≤ length s → sizeAt s c n first ≡ fine 0
+unfolding widthOf
+size-of-none s c n first h k =
+    let w : getD widthRow c 0 ≡ 0 = List·getD-eq-default widthRow 0 {n = c} (omega arith) in
+    let z : n * getD widthRow c 0 ≡ 0 = rw w (mul-zero n) in
+    size-within s _ n first (omega arith) ∙ ap fine z
 
 -- values
 module _ (s : List ℕ) (c n first : ℕ) where
@@ -151,7 +159,7 @@ module _ (s : List ℕ) (c n first : ℕ) where
 
   -- the size is known to lie in s
   pub size-goes : (z : ℕ) → sizeAt s c n first ≡ fine z → (z ≡ n * widthOf c) × (first + z ≤ length s)
-  unfolding sizeAt
+  unfolding sizeOf
   size-goes z e =
       let a = needed-bind s first (n * widthOf c) _ e in
       let q : n * widthOf c ≡ z = fine-eq (a .1) in
@@ -237,7 +245,7 @@ module _ (s : List ℕ) (at : ℕ) where
 
     module _ (first : ℕ) (b : marks s (h .marked) (h .next) ≡ fine first) where
       pub outline-size-stop : (k p : ℕ) → sizeAt s (h .code) (h .values) first ≡ refused k p → outline s at ≡ refused k p
-      unfolding outline sizeAt
+      unfolding outline sizeOf
       outline-size-stop k p d = simp (a, b) (after-need (need s first (h .values * widthOf (h .code))) _ _ d)
 
       pub outline-fine : (z : ℕ) → sizeAt s (h .code) (h .values) first ≡ fine z

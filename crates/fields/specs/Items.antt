@@ -27,11 +27,14 @@ fielded (Fielded·Refused r) = refused (r .number) (r .place)
 abbrev pub askedFor : ℕ → ℕ → ℕ → ℕ → Answer F.Head
 askedFor c v k p = fine (F.headOf c (record { values = v; columns = k; next = p }))
 
--- The number of bytes of n values of code c, all there from `first` on.
-unfoldable pub sizeAt : List ℕ → ℕ → ℕ → ℕ → Answer ℕ
-sizeAt s c n first = do
-  there ← need s first (n * widthOf c)
-  fine (n * widthOf c)
+-- The number of bytes of n values of w bytes each, all there from `first` on; and that of n values of code c.
+unfoldable pub sizeOf : List ℕ → ℕ → ℕ → ℕ → Answer ℕ
+sizeOf s w n first = do
+  there ← need s first (n * w)
+  fine (n * w)
+
+abbrev pub sizeAt : List ℕ → ℕ → ℕ → ℕ → Answer ℕ
+sizeAt s c n first = sizeOf s (widthOf c) n first
 
 -- None of the n bytes from `at` on is above m.
 abbrev pub NoneAbove : List ℕ → ℕ → ℕ → ℕ → Type 0

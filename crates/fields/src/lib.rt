@@ -6,7 +6,7 @@ ghost use lib.Dec.{leb};
 ghost use Rattle.sim0mq.specs.Codes.{boolean as booleanOf};
 ghost use Rattle.sim0mq.specs.Field.{markCount, head as headOf, outline as outlineOf};
 ghost use Rattle.sim0mq.specs.Views.{judged};
-ghost use Rattle.fields.specs.Items.{headed, askedFor, fielded, sizeAt, NoneAbove, booleansEnd, valuesEnd};
+ghost use Rattle.fields.specs.Items.{headed, askedFor, fielded, sizeOf, sizeAt, NoneAbove, booleansEnd, valuesEnd};
 use marks::marks;
 use numbers::count;
 use numbers::wide;
@@ -124,7 +124,19 @@ fn fits(n: usize, w: usize, room: usize) -> bool
     n <= room / w
 }
 
-// The number of bytes of n values of this code, all of which are there from `first` on.
+// The number of bytes of n values of w bytes each, all of which are there from `first` on.
+fn size_of(s: &[u8], w: usize, n: usize, first: usize) -> Judged
+    requires { ⌜ (0 < w) × (first ≤ length (now s)) ⌝ }
+    ensures { λ r. ⌜ judged r ≡ sizeOf (now (s .entry)) w n first ⌝ }
+{
+    if fits(n, w, s.len() - first) {
+        return Judged::Accepted(n * w);
+    }
+    sim0mq::refuse(1, s.len())
+}
+
+// The number of bytes of n values of this code, all of which are there from `first` on. Each width has a way of its own, so that where the next field begins
+// does not wait for this one's code.
 fn size(s: &[u8], code: usize, n: usize, first: usize) -> Judged
     ensures { λ r. ⌜ judged r ≡ sizeAt (now (s .entry)) code n first ⌝ }
 {
@@ -135,10 +147,16 @@ fn size(s: &[u8], code: usize, n: usize, first: usize) -> Judged
         return Judged::Accepted(0);
     }
     let w = width(code);
-    if fits(n, w, s.len() - first) {
-        return Judged::Accepted(n * w);
+    if w == 1 {
+        return size_of(s, 1, n, first);
     }
-    sim0mq::refuse(1, s.len())
+    if w == 2 {
+        return size_of(s, 2, n, first);
+    }
+    if w == 4 {
+        return size_of(s, 4, n, first);
+    }
+    size_of(s, 8, n, first)
 }
 
 // A number that none of the n bytes from `at` on is above. It looks at all of them, whatever they are, so that many are looked at in one step.

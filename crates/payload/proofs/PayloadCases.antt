@@ -19,7 +19,7 @@ use Rattle.sim0mq.proofs.Refusals.{Held, payload-placed}
 use Rattle.sim0mq.specs.Demand1.{judgingNumbers}
 use Rattle.sim0mq.proofs.MarkLaws.{mark-sound}
 use Rattle.sim0mq.proofs.FieldLaws.{count-sound}
-use Rattle.fields.specs.Items.{sizeAt, booleansEnd, valuesEnd}
+use Rattle.fields.specs.Items.{sizeOf, sizeAt, booleansEnd, valuesEnd}
 use Rattle.payload.specs.Parts.{stepsFrom, partSteps, payloadSteps}
 use Rattle.payload.specs.Kept.{Small}
 use Rattle.fields.proofs.FieldCases.{size-goes}
@@ -86,7 +86,7 @@ found at h first size = record { code = h .code; place = at; first = first; size
 -- a field whose head and marks were taken is judged by its values
 module _ (s : List ℕ) (at : ℕ) (h : Head) (first : ℕ) (a : head s at ≡ fine h) (b : marks s (h .marked) (h .next) ≡ fine first) where
   field-of : field s at ≡ (valuesEnd s (h .code) (h .values) first >>= (λ e. fine (fieldOf at h first)))
-  unfolding field outline valuesEnd sizeAt booleansEnd
+  unfolding field outline valuesEnd sizeOf booleansEnd
   field-of = go (need s first size) (booleans s (booleansOf (h .code) size) first) refl refl
     where
       size : ℕ

@@ -1,18 +1,10 @@
--- The values are there exactly when they fit into the bytes from the first on.
+-- The code's width is one of four, and each has its own call.
 use native.Mathlib.Omega.{arith}
 use borrow.Author.Needs.{needs}
-use Prim.Native.Nat.{_≤_, ℕ, _<_, _^_}
-use mathlib.Core.Path.{sym, _∙_, _≡_, subst}
-use borrow.Author.Tests.{leb-true}
-use Rattle.fields.proofs.FieldCases.{width-positive, size-past, size-of-none, size-fits, size-short}
-use mathlib.Core.Bool.{true}
-use lib.Dec.{leb}
+use mathlib.Core.Path.{sym, _∙_}
+use Rattle.fields.proofs.FieldCases.{width-eight, size-past, size-told, size-of-none}
 use Rattle.fields.proofs.size.Statement.{statement}
 use Rattle.fields.proofs.size.Tie as tie
-
--- what is at most the room left fits a machine's number, since the room does
-fits-in : (z room : ℕ) → leb z room ≡ true → room < 2 ^ 64 → z < 2 ^ 64
-fits-in z room e h = let l : z ≤ room = leb-true _ _ e in omega arith
 
 refuse-requires : tie.Need-refuse-requires
 refuse-requires c κs = search needs
@@ -26,23 +18,31 @@ returns-2 c = sym (size-of-none _ _ _ _ (c .if2 .taken) (omega arith))
 width-requires : tie.Need-width-requires
 width-requires c κs = search needs
 
-sub-fits : tie.Need-sub-fits
-sub-fits c = search needs
-
-fits-requires : tie.Need-fits-requires
-fits-requires c κs = subst (λ (w : ℕ). 1 ≤ w) (sym (c .width .ensures)) (width-positive (c .before .before .before .before .args .code) (omega arith))
-
-mul-t11 : tie.Need-mul-t11
-mul-t11 c = record { fits = fits-in _ _ (sym (c .before .fits2 .ensures) ∙ c .if3 .taken) (omega arith) }
+size-of-requires : tie.Need-size-of-requires
+size-of-requires c κs = search needs
 
 returns-3 : tie.Need-returns-3
-returns-3 c = sym (size-fits _ _ _ _ _ (c .before .before .width .ensures) (omega arith) (sym (c .before .fits2 .ensures) ∙ c .if3 .taken))
+returns-3 c = c .size-of .ensures ∙ size-told _ _ _ _ (sym (c .before .if3 .taken) ∙ c .before .before .width .ensures)
 
-refuse-requires-2 : tie.Need-refuse-requires-2
-refuse-requires-2 c κs = search needs
+size-of-requires-2 : tie.Need-size-of-requires-2
+size-of-requires-2 c κs = search needs
 
 returns-4 : tie.Need-returns-4
-returns-4 c = c .refuse2 .ensures ∙ sym (size-short _ _ _ _ _ (c .before .before .before .width .ensures) (omega arith) (sym (c .before .before .fits2 .ensures) ∙ c .before .if3 .left))
+returns-4 c = c .size-of2 .ensures ∙ size-told _ _ _ _ (sym (c .before .if4 .taken) ∙ c .before .before .before .width .ensures)
+
+size-of-requires-3 : tie.Need-size-of-requires-3
+size-of-requires-3 c κs = search needs
+
+returns-5 : tie.Need-returns-5
+returns-5 c = c .size-of3 .ensures ∙ size-told _ _ _ _ (sym (c .before .if5 .taken) ∙ c .before .before .before .before .width .ensures)
+
+size-of-requires-4 : tie.Need-size-of-requires-4
+size-of-requires-4 c κs = search needs
+
+returns-6 : tie.Need-returns-6
+returns-6 c =
+    let eight = width-eight _ _ (omega arith) (c .before .before .before .before .width .ensures) (c .before .before .before .if3 .left) (c .before .before .if4 .left) (c .before .if5 .left) in
+    c .size-of4 .ensures ∙ size-told _ _ _ _ eight
 
 pub size-spec : {M : Type 1} → statement M
 size-spec =
@@ -52,9 +52,11 @@ size-spec =
     returns
     returns-2
     width-requires
-    sub-fits
-    fits-requires
-    mul-t11
+    size-of-requires
     returns-3
-    refuse-requires-2
-    returns-4)
+    size-of-requires-2
+    returns-4
+    size-of-requires-3
+    returns-5
+    size-of-requires-4
+    returns-6)
