@@ -1,22 +1,17 @@
-// The rows of the format's tables (specs Codes and Mark of sim0mq). An entry is computed, since a row in memory would be laid out anew at each call.
+// The rows of the format's tables (specs Codes and Mark of sim0mq). They are written as code, since a constant array would be laid out anew at each call.
 ghost use mathlib.Core.Path.{_≡_};
-ghost use Prim.Native.Nat.{_%_, _/_, _*_, _^_, _≤_, _<_};
+ghost use Prim.Native.Nat.{_≤_};
 ghost use lib.ListN.{getD};
 ghost use Rattle.sim0mq.specs.Codes.{countsOf, markingOf, widthOf};
 ghost use Rattle.sim0mq.specs.Mark.{lastRow, perRow};
+ghost use Rattle.tables.specs.Bits.{bit};
 
-// The bytes per value of the codes 0 to 24 as powers of two, two bits for each code, the last code's first.
-const POWERS: usize = 0b00_11_10_11_10_01_00_00_11_10_11_10_01_00_01_00_01_00_00_11_10_11_10_01_00;
+// The codes whose values have one byte, four and eight: a bit for each of the codes 0 to 32, the last code's first.
+const ONES: usize = 0b0_00000001_00000110_00001010_11000001;
 
-// The last display codes of the unit types 0 to 9, 10 to 19 and 20 to 28, two octal digits for each type, the last type's first.
-const LASTS_0: usize = 0o10_07_20_01_25_03_06_01_10_00;
+const FOURS: usize = 0b0_10101010_01010000_10100000_00010100;
 
-const LASTS_10: usize = 0o30_25_25_25_20_06_17_01_46_10;
-
-const LASTS_20: usize = 0o33_03_17_12_04_04_15_20_17;
-
-// The unit types whose display codes the money types 101 to 106 use, two octal digits for each, the last type's first.
-const PERS: usize = 0o34_31_23_20_13_05;
+const EIGHTS: usize = 0b1_01010100_10100001_01000000_00101000;
 
 // How many counts follow a field code.
 pub fn counts(code: usize) -> usize
@@ -59,57 +54,82 @@ pub fn marking(code: usize) -> usize
     0
 }
 
-// The bytes per value of a field code, as a power of two.
-fn power(code: usize) -> usize
+// Whether code is one of these codes: a bit for each, the last code's first.
+fn among(codes: usize, code: usize) -> bool
     requires { ⌜ code ≤ 32 ⌝ }
-    ensures { λ r. ⌜ (2 ^ r ≡ widthOf code) × (r < 4) ⌝ }
+    ensures { λ r. ⌜ r ≡ bit codes code ⌝ }
 {
-    if code <= 24 {
-        return (POWERS >> (2 * code)) % 4;
-    }
-    3 - code % 2
+    (codes >> code) % 2 == 1
 }
 
 // The bytes per value of a field code; 0 where it is none.
 pub fn width(code: usize) -> usize
     ensures { λ r. ⌜ r ≡ widthOf code ⌝ }
 {
-    if code < 33 {
-        return 1 << power(code);
+    if 32 < code {
+        return 0;
     }
-    0
-}
-
-// The entry i of a row that has two octal digits for each entry, the first entry's last.
-fn entry(row: usize, i: usize) -> usize
-    requires { ⌜ i < 10 ⌝ }
-    ensures { λ r. ⌜ r ≡ row / 2 ^ (6 * i) % 64 ⌝ }
-{
-    (row >> (6 * i)) % 64
+    if among(ONES, code) {
+        return 1;
+    }
+    if among(EIGHTS, code) {
+        return 8;
+    }
+    if among(FOURS, code) {
+        return 4;
+    }
+    2
 }
 
 // The last display code of a unit type; 0 where it has none of its own.
 pub fn last(t: usize) -> usize
     ensures { λ r. ⌜ r ≡ getD lastRow t 0 ⌝ }
 {
-    if t < 10 {
-        return entry(LASTS_0, t);
+    match t {
+        0 => 0,
+        1 => 8,
+        2 => 1,
+        3 => 6,
+        4 => 3,
+        5 => 21,
+        6 => 1,
+        7 => 16,
+        8 => 7,
+        9 => 8,
+        10 => 8,
+        11 => 38,
+        12 => 1,
+        13 => 15,
+        14 => 6,
+        15 => 16,
+        16 => 21,
+        17 => 21,
+        18 => 21,
+        19 => 24,
+        20 => 15,
+        21 => 16,
+        22 => 13,
+        23 => 4,
+        24 => 4,
+        25 => 10,
+        26 => 15,
+        27 => 3,
+        28 => 27,
+        _ => 0,
     }
-    if t < 20 {
-        return entry(LASTS_10, t - 10);
-    }
-    if t < 29 {
-        return entry(LASTS_20, t - 20);
-    }
-    0
 }
 
 // The unit type whose display codes the money type 101 + k uses; 0 where there is none.
 pub fn per(k: usize) -> usize
     ensures { λ r. ⌜ r ≡ getD perRow k 0 ⌝ }
 {
-    if k < 6 {
-        return entry(PERS, k);
+    match k {
+        0 => 5,
+        1 => 11,
+        2 => 16,
+        3 => 19,
+        4 => 25,
+        5 => 28,
+        _ => 0,
     }
-    0
 }

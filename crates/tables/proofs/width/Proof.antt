@@ -1,34 +1,52 @@
--- One shifted by the power is two to that power, which fits a machine's number.
-use Prim.Native.Nat.{ℕ, _*_, _%_, _^_, _<_}
-use mathlib.Core.Path.{_≡_, _∙_}
+-- The codes of each width are those whose bit is set, since a test computed over all codes passes; what is left has two bytes.
+use mathlib.Core.Path.{refl, sym, _∙_}
 use native.Mathlib.Omega.{arith}
-use native.Mathlib.Nat.{mod-eq-of-lt}
 use borrow.Author.Needs.{needs}
 use Rattle.sim0mq.specs.Codes.{widthRow, widthOf}
-use Rattle.sim0mq.proofs.Rows.{eight-wide}
-use Rattle.tables.proofs.TableCases.{past}
+use Rattle.tables.specs.Bits.{bit}
+use Rattle.tables.proofs.TableCases.{allBelow, agreeing, width-told, width-left, past}
 use Rattle.tables.proofs.width.Statement.{statement}
 use Rattle.tables.proofs.width.Tie as tie
 
-shifted : (w c : ℕ) → w ≡ widthOf c → 1 * w % 2 ^ 64 ≡ widthOf c
-shifted w c e =
-    let small = eight-wide c in
-    let fits : 1 * w < 2 ^ 64 = omega arith in
-    let same : 1 * w ≡ widthOf c = omega arith in
-    mod-eq-of-lt fits ∙ same
-
-power-requires : tie.Need-power-requires
-power-requires c κs = search needs
-
-shl-result : tie.Need-shl-result
-shl-result c = search needs
-
 returns : tie.Need-returns
-returns c = shifted _ _ (c .power .ensures .0)
+unfolding widthOf
+returns c = past widthRow (c .before .args .code) (c .if1 .taken)
+
+among-requires : tie.Need-among-requires
+among-requires c κs = search needs
 
 returns-2 : tie.Need-returns-2
-unfolding widthOf
-returns-2 c = past widthRow (c .before .args .code) (omega arith)
+unfolding allBelow agreeing bit widthOf
+returns-2 c = width-told _ 1 refl (c .before .before .before .args .code) (omega arith) (sym (c .before .among .ensures) ∙ c .if2 .taken)
+
+among-requires-2 : tie.Need-among-requires-2
+among-requires-2 c κs = search needs
+
+returns-3 : tie.Need-returns-3
+unfolding allBelow agreeing bit widthOf
+returns-3 c = width-told _ 8 refl (c .before .before .before .before .before .args .code) (omega arith) (sym (c .before .among2 .ensures) ∙ c .if3 .taken)
+
+among-requires-3 : tie.Need-among-requires-3
+among-requires-3 c κs = search needs
+
+returns-4 : tie.Need-returns-4
+unfolding allBelow agreeing bit widthOf
+returns-4 c = width-told _ 4 refl (c .before .before .before .before .before .before .before .args .code) (omega arith) (sym (c .before .among3 .ensures) ∙ c .if4 .taken)
+
+returns-5 : tie.Need-returns-5
+unfolding allBelow agreeing bit widthOf
+returns-5 c =
+    width-left _ _ _ 2 refl (c .before .before .before .before .before .before .before .args .code) (omega arith) (sym (c .before .before .before .before .before .among .ensures) ∙ c .before .before .before .before .if2 .left) (sym (c .before .before .before .among2 .ensures) ∙ c .before .before .if3 .left) (sym (c .before .among3 .ensures) ∙ c .if4 .left)
 
 pub width-spec : {M : Type 1} → statement M
-width-spec = tie.close (tie.spec power-requires shl-result returns returns-2)
+width-spec =
+    tie.close
+    (tie.spec
+    returns
+    among-requires
+    returns-2
+    among-requires-2
+    returns-3
+    among-requires-3
+    returns-4
+    returns-5)
