@@ -18,6 +18,7 @@ use Rattle.sim0mq.specs.Allowed.{Each, none, more}
 use Rattle.sim0mq.proofs.BlankLaws.{Inside, inside-to, zeroed-long, blanked-long}
 use Rattle.sim0mq.proofs.Answers.{fine-eq, bind-fine, guarded}
 use Rattle.sim0mq.proofs.Demand3.{copy-is-blank}
+use Rattle.buffers.specs.Placing.{putIn, clearedIn}
 use Rattle.payload.specs.Parts.{payloadSteps}
 use Rattle.payload.specs.Kept.{keptOf}
 use Rattle.payload.proofs.PayloadCases.{field-goes, at-stopped, at-taken}
@@ -122,16 +123,16 @@ module _ (s kept all out : List ℕ) (n at i : ℕ) where
 
   -- with the numbers that the code has of it
   pub left-stands : Left s kept all out n at i → i < n → (first size : ℕ) → first ≡ getD kept (5 * i + 2) 0 → size ≡ getD kept (5 * i + 3) 0
-      → (at ≤ first) × (first + size ≤ length s) × (length s ≤ length out)
+      → (at ≤ first) × (first + size ≤ length s)
   left-stands l h first size p q =
       let r = left-row l h in
       let before = r .0 in
       let end = r .1 in
-      (omega arith, omega arith, l .room)
+      (omega arith, omega arith)
 
   pub left-turn : Left s kept all out n at i → i < n → (first size : ℕ) (copied next : List ℕ)
       → first ≡ getD kept (5 * i + 2) 0 → size ≡ getD kept (5 * i + 3) 0
-      → copied ≡ placed out at (take (first - at) (drop at s)) → next ≡ zeroed copied first size → length next ≡ length out
+      → copied ≡ putIn out at (take (first - at) (drop at s)) → next ≡ clearedIn copied first size → length next ≡ length out
       → Left s kept all next n (first + size) (i + 1)
   unfolding rows blanked
   left-turn l h first size copied next p q c z same = go (l .fields) (l .chained) (l .rowed) (l .many) (l .whole)
@@ -221,7 +222,7 @@ module _ (room : ℕ) (s : List ℕ) (next n : ℕ) where
           subst (λ (fs : List Field). Each (Inside (length s)) (map (moved next) fs)) (sym (ap taken (a .1))) (chained-inside s (next + 0) _ chain)
 
       -- the copy that the code makes
-      pub copy-made : (out front copy : List ℕ) → length out ≡ room → length s ≤ room → front ≡ placed out 0 (take next s)
+      pub copy-made : (out front copy : List ℕ) → length out ≡ room → length s ≤ room → front ≡ putIn out 0 (take next s)
           → copy ≡ blanked (placed front next (drop next s)) (fieldsOf s next n)
           → (fine (length s) ≡ lengthOf (copying room s next n)) × (copy ≡ outputAfter out (copying room s next n))
       unfolding stored lengthOf outputAfter

@@ -9,6 +9,8 @@ use lib.Seq.{length-take-le, take-at, drop-at, drop-drop}
 use Rattle.sim0mq.specs.Table.{stored, placed}
 use Rattle.sim0mq.specs.Blank.{zeroed}
 use Rattle.sim0mq.proofs.PlaceLaws.{placed-nothing, placed-length, placed-on}
+use Rattle.buffers.specs.Placing.{putIn, clearedIn}
+use Rattle.buffers.proofs.PlaceLaws.{put-fits, clear-fits}
 
 module _ (out : List ℕ) (at : ℕ) where
   -- a text over the front of another, as long as that front
@@ -39,22 +41,23 @@ module _ (out : List ℕ) (at : ℕ) where
 pub placed-past : (out s : List ℕ) (p at : ℕ) → length s ≤ at → placed out p (drop at s) ≡ out
 placed-past out s p at h = ap (placed out p) (drop-of-length-le s {i = at} h) ∙ sym (placed-nothing out p)
 
--- the front of a message, and then its rest
+-- the front of a message, which is put, and then its rest
 pub placed-whole : (out s : List ℕ) (next : ℕ) → next ≤ length s → length s ≤ length out
-    → placed (placed out 0 (take next s)) next (drop next s) ≡ stored out s
+    → placed (putIn out 0 (take next s)) next (drop next s) ≡ stored out s
 unfolding stored placed
 placed-whole out s next h room =
     let front : next ≡ 0 + length (take next s) = omega (arith, length-take-le next s h) in
-    placed-on out 0 (take next s) (drop next s) next front (omega (arith, length-drop next s))
+    ap (λ (o : List ℕ). placed o next (drop next s)) (put-fits out 0 (take next s) (omega arith))
+    ∙ placed-on out 0 (take next s) (drop next s) next front (omega (arith, length-drop next s))
     ∙ ap (placed out 0) (take-append-drop next s)
     ∙ ap (λ (k : ℕ). s ++ drop k out) (zero-add (length s))
 
--- one field: what stands before its values is placed, and zeros after it, and then the rest
+-- one field: what stands before its values is put, and zeros after it, and then the rest
 pub placed-turn : (out s : List ℕ) (at first size : ℕ) (copied next : List ℕ)
     → at ≤ first → first + size ≤ length s → length s ≤ length out
-    → copied ≡ placed out at (take (first - at) (drop at s)) → next ≡ zeroed copied first size
+    → copied ≡ putIn out at (take (first - at) (drop at s)) → next ≡ clearedIn copied first size
     → zeroed (placed out at (drop at s)) first size ≡ placed next (first + size) (drop (first + size) s)
-placed-turn out s at first size copied next h k room c z =
+placed-turn out s at first size copied next h k room p q =
     let head = take (first - at) (drop at s) in
     let values = take size (drop first s) in
     let rest = drop (first + size) s in
@@ -63,7 +66,9 @@ placed-turn out s at first size copied next h k room c z =
     let values-long : length values ≡ size = length-take-le size (drop first s) (omega (arith, length-drop first s)) in
     let rest-long : length rest ≡ length s - (first + size) = length-drop (first + size) s in
     let head-long : length head ≡ first - at = length-take-le (first - at) (drop at s) (omega (arith, length-drop at s)) in
+    let c : copied ≡ placed out at head = p ∙ put-fits out at head (omega arith) in
     let long : length copied ≡ length out = ap length c ∙ placed-length out at head (omega arith) in
+    let z : next ≡ zeroed copied first size = q ∙ clear-fits copied first size (omega arith) in
     let place : at + (first - at) ≡ first = omega arith in
     let split : drop at s ≡ head ++ drop first s
     = sym (take-append-drop (first - at) (drop at s)) ∙ ap (λ (l : List ℕ). head ++ l) (drop-drop (first - at) at s ∙ ap (λ (i : ℕ). drop i s) place) in

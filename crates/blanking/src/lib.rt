@@ -1,41 +1,18 @@
 // Blanking: a copy of a message that has zero in every payload value byte, so that it shows how the message is built and nothing of what it says.
 ghost use mathlib.Core.Path.{_≡_};
-ghost use Prim.Native.Nat.{_+_, _≤_};
 ghost use lib.ListN.{length, drop};
-ghost use Rattle.sim0mq.specs.Blank.{zeroed, blanked, blanking, outputAfter};
+ghost use Rattle.sim0mq.specs.Blank.{blanked, blanking, outputAfter};
 ghost use Rattle.sim0mq.specs.Views.{judged as told};
 ghost use Rattle.blanking.specs.Blanking.{lengthOf, copying, fieldsOf, Copyable, Blankable};
 ghost use Rattle.sim0mq.specs.Table.{placed};
+use buffers::clear;
+use buffers::put;
 use header::Said;
 use payload::payload;
 use payload::wide;
 use reading::Lent;
 use reading::opened;
 use sim0mq::Judged;
-
-// The bytes of s in `out` from `at` on.
-fn copy(s: &[u8], out: &mut [u8], at: usize)
-    requires { ⌜ at + length (now s) ≤ length (now out) ⌝ }
-    ensures { λ _. ⌜ now (out .exit) ≡ placed (now (out .entry)) at (now (s .entry)) ⌝ }
-{
-    let mut i: usize = 0;
-    while i < s.len() {
-        out[at + i] = s[i];
-        i += 1;
-    }
-}
-
-// Zero in the n bytes of `out` from `at` on.
-fn wipe(out: &mut [u8], at: usize, n: usize)
-    requires { ⌜ at + n ≤ length (now out) ⌝ }
-    ensures { λ _. ⌜ now (out .exit) ≡ zeroed (now (out .entry)) at n ⌝ }
-{
-    let mut i: usize = 0;
-    while i < n {
-        out[at + i] = 0;
-        i += 1;
-    }
-}
 
 // The copy of an accepted message in `out`, from `next` on, where its payload of n fields begins, whose rows are kept: of each field its code, counts and marks,
 // and zero for its value bytes, which are not read.
@@ -48,8 +25,8 @@ fn blank_fields(message: &[u8], next: usize, n: usize, kept: &[u16], out: &mut [
     while k < n {
         let first = wide(kept[5 * k + 2]);
         let size = wide(kept[5 * k + 3]);
-        copy(&message[at..first], out, at);
-        wipe(out, first, size);
+        put(&message[at..first], out, at);
+        clear(out, first, size);
         at = first + size;
         k += 1;
     }
@@ -68,7 +45,7 @@ fn copied_by(message: &[u8], next: usize, n: usize, kept: &mut [u16], out: &mut 
             if out.len() < message.len() {
                 return sim0mq::refuse(14, 0);
             }
-            copy(&message[..next], out, 0);
+            put(&message[..next], out, 0);
             blank_fields(message, next, n, kept, out);
             Judged::Accepted(message.len())
         }

@@ -28,6 +28,8 @@ use Rattle.marks.proofs.display_taken.Reads as display-taken
 use Rattle.numbers.proofs.wide.Reads as wide
 use Rattle.numbers.proofs.number.Reads as number
 use Rattle.numbers.proofs.count.Reads as count
+use Rattle.buffers.proofs.put.Reads as put-text
+use Rattle.buffers.proofs.clear.Reads as clear
 use Rattle.tables.proofs.counts.Reads as counts
 use Rattle.tables.proofs.marking.Reads as marking
 use Rattle.tables.proofs.width.Reads as width
@@ -56,7 +58,6 @@ use Rattle.writing.proofs.Writer.add.Reads as add
 use Rattle.writing.proofs.Writer.add_scalar.Reads as add-scalar
 use Rattle.writing.proofs.Writer.close.Reads as close
 use Rattle.puts.proofs.bits.Reads as bits
-use Rattle.puts.proofs.put.Reads as put-text
 use Rattle.puts.proofs.put_big.Reads as put-big
 use Rattle.puts.proofs.put_number.Reads as put-number
 use Rattle.encoding.proofs.scalars.encode.Reads as encode
@@ -162,6 +163,13 @@ number-result = equated number.Post (λ κs z e. z) _ (λ κs a z e p. p .0)
 pub count-result : Determines count.Post (λ κs z e. z)
 count-result = determined count.Post (λ κs z e. z) (λ κs. judged) (λ κs. judged-apart) _ (λ κs a z e p. p .0)
 
+-- The calls of crate buffers.
+pub put-text-out : Determines put-text.Post (λ κs z e. now (e .1 .0))
+put-text-out = equated put-text.Post (λ κs z e. now (e .1 .0)) _ (λ κs a z e p. p)
+
+pub clear-out : Determines clear.Post (λ κs z e. now (e .0))
+clear-out = equated clear.Post (λ κs z e. now (e .0)) _ (λ κs a z e p. p)
+
 -- The calls of crate marks.
 pub mark-result : Determines mark.Post (λ κs z e. z)
 mark-result = determined mark.Post (λ κs z e. z) (λ κs. judged) (λ κs. judged-apart) _ (λ κs a z e p. p)
@@ -259,9 +267,6 @@ blank-out = equated blank.Post (λ κs z e. now (e .1 .0)) _ (λ κs a z e p. p 
 -- The calls of crate puts.
 pub bits-result : Determines bits.Post (λ κs z e. z)
 bits-result = equated bits.Post (λ κs z e. z) _ (λ κs a z e p. p)
-
-pub put-text-out : Determines put-text.Post (λ κs z e. now (e .1 .0))
-put-text-out = equated put-text.Post (λ κs z e. now (e .1 .0)) _ (λ κs a z e p. p)
 
 pub put-big-out : Determines put-big.Post (λ κs z e. now (e .0))
 put-big-out = equated put-big.Post (λ κs z e. now (e .0)) _ (λ κs a z e p. p)

@@ -22,11 +22,13 @@ use Rattle.kinds.specs.declared.Scalar.the-variants.{Boolean}
 use Rattle.encoding.specs.declared.scalars.Encoded.{Encoded}
 use Rattle.encoding.specs.Scalars.{codeOf, scalarText, markTaken, writable, scalarGiven}
 use Rattle.sim0mq.specs.Table.{placed}
-use Rattle.puts.specs.Placing.{numberText, putIn}
+use Rattle.buffers.specs.Placing.{putIn}
+use Rattle.puts.specs.Placing.{numberText}
 use Rattle.puts.specs.Signed.{bitsUpTo}
 use Rattle.encoding.specs.Encoded.{encodedAs, markedGiven}
 use Rattle.sim0mq.proofs.PlaceLaws.{placed-length, placed-on}
-use Rattle.puts.proofs.PlaceLaws.{placed-byte, placed-coded, big-length, big-fits}
+use Rattle.buffers.proofs.PlaceLaws.{placed-byte}
+use Rattle.puts.proofs.PlaceLaws.{placed-coded, big-length, big-fits}
 use Rattle.puts.proofs.SignedLaws.{bits-of}
 
 -- whether a mark is taken, whose unit type is u

@@ -20,11 +20,13 @@ use Rattle.sim0mq.proofs.Rows.{allPass, pass-among, eight-wide}
 use Rattle.header.proofs.FrameCases.{nth-id, nth-goes}
 use Rattle.asking.specs.Bytes.{bitsOf}
 use Rattle.sim0mq.specs.Table.{placed}
-use Rattle.puts.specs.Placing.{numberText, putIn}
+use Rattle.buffers.specs.Placing.{putIn}
+use Rattle.puts.specs.Placing.{numberText}
 use Rattle.opening.specs.Opening.{idsFrom, holds, headerWith, fitting, headerGiven, lengthOf}
 use Rattle.opening.specs.Judges.{numbersJudged, openingJudged}
 use Rattle.sim0mq.proofs.PlaceLaws.{placed-length, placed-on}
-use Rattle.puts.proofs.PlaceLaws.{big-length, put-fits}
+use Rattle.buffers.proofs.PlaceLaws.{put-fits}
+use Rattle.puts.proofs.PlaceLaws.{big-length}
 
 -- the id frames from `at` on: a refused one, the next one, bytes after the last, no byte after it
 module _ (s : List ℕ) (n at : ℕ) where

@@ -1,21 +1,9 @@
-// Texts and numbers put into a buffer, and the bits that a signed number is put as.
+// Numbers put into a buffer, and the bits that a signed number is put as.
 ghost use mathlib.Core.Path.{_≡_};
 ghost use Rattle.asking.specs.Bytes.{bigBytes};
-ghost use Rattle.puts.specs.Placing.{numberText, putIn};
+ghost use Rattle.buffers.specs.Placing.{putIn};
+ghost use Rattle.puts.specs.Placing.{numberText};
 ghost use Rattle.puts.specs.Signed.{bitsUpTo};
-
-// The bytes of `text` in `out` from `at` on, where there is room for them.
-pub fn put(text: &[u8], out: &mut [u8], at: usize)
-    ensures { λ _. ⌜ now (out .exit) ≡ putIn (now (out .entry)) at (now (text .entry)) ⌝ }
-{
-    if out.len() < at {
-        return;
-    }
-    if out.len() - at < text.len() {
-        return;
-    }
-    bytes::copy(text, &mut out[at..]);
-}
 
 // The n bytes that x is written in, the first weighing most, in `out` from `at` on, where there is room for them.
 pub fn put_big(out: &mut [u8], at: usize, n: usize, x: u64)

@@ -24,7 +24,7 @@ use Rattle.returning.specs.History.{Point, start, adds, closes, givenAft
 use Rattle.returning.specs.Promises.{framePlace, ownOpening, ownFields, rewritten, Rewrites, Rewriting-gives-the-same}
 use Rattle.writing.specs.declared.Writer.{Writer}
 use Rattle.sim0mq.proofs.PlaceLaws.{placed-length, placed-on}
-use Rattle.puts.proofs.PlaceLaws.{front-stands}
+use Rattle.buffers.proofs.PlaceLaws.{front-stands}
 use Rattle.returning.proofs.JoinLaws.{flat-append, four-long}
 use Rattle.returning.proofs.GivenLaws.{encoded-taken, own-fields}
 use Rattle.returning.proofs.RewriteOpen.{idsOf, own-header, own-opening}

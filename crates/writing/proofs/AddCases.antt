@@ -21,7 +21,7 @@ use Rattle.encoding.specs.Encoded.{encodedAs}
 use Rattle.encoding.specs.declared.scalars.Encoded.{Encoded}
 use Rattle.writing.specs.declared.Writer.{Writer}
 use Rattle.writing.specs.declared.Wrote.{Wrote}
-use Rattle.puts.proofs.PlaceLaws.{front-stands}
+use Rattle.buffers.proofs.PlaceLaws.{front-stands}
 
 -- a state that takes a field: as many as declared were added, closed, too much written, and whether there is room
 module _ (w : Writer) (room : ℕ) where

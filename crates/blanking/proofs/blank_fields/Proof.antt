@@ -2,8 +2,7 @@
 use native.Mathlib.Omega.{arith}
 use Prim.Native.Nat.{_-_}
 use mathlib.Core.Path.{_≡_, refl}
-use lib.ListN.{length, drop, length-drop}
-use lib.Seq.{length-take-le}
+use lib.ListN.{length, drop}
 use Rattle.sim0mq.specs.Blank.{blanked}
 use Rattle.sim0mq.specs.Table.{placed}
 use Rattle.blanking.specs.Blanking.{fieldsOf}
@@ -68,38 +67,32 @@ shared-slice-read-wide-2 c =
 wide-requires-2 : tie.Need-wide-requires-2 Inv-loop μ-loop
 wide-requires-2 c κs = search needs
 
-sub-copy : tie.Need-sub-copy Inv-loop μ-loop
-sub-copy c =
-    let before = left-stands _ _ _ _ _ _ _ (c .before .before .before .before .before .loop .inv .0) (c .before .before .before .before .loop-test .taken) _ _ (c .before .before .wide .ensures .0) (c .wide2 .ensures .0) .0 in
-    omega arith
-
-part-copy-start : tie.Need-part-copy-start Inv-loop μ-loop
-part-copy-start c =
-    let before = left-stands _ _ _ _ _ _ _ (c .before .before .before .before .before .loop .inv .0) (c .before .before .before .before .loop-test .taken) _ _ (c .before .before .wide .ensures .0) (c .wide2 .ensures .0) .0 in
-    omega arith
-
-part-copy-end : tie.Need-part-copy-end Inv-loop μ-loop
-part-copy-end c =
-    let end = left-stands _ _ _ _ _ _ _ (c .before .before .before .before .before .loop .inv .0) (c .before .before .before .before .loop-test .taken) _ _ (c .before .before .wide .ensures .0) (c .wide2 .ensures .0) .1 in
-    omega arith
-
-copy-requires : tie.Need-copy-requires Inv-loop μ-loop
-copy-requires c κs =
-    let stands = left-stands _ _ _ _ _ _ _ (c .before .before .before .before .before .before .before .loop .inv .0) (c .before .before .before .before .before .before .loop-test .taken) _ _ (c .before .before .before .before .wide .ensures .0) (c .before .before .wide2 .ensures .0) in
+sub-put : tie.Need-sub-put Inv-loop μ-loop
+sub-put c =
+    let stands = left-stands _ _ _ _ _ _ _ (c .before .before .before .before .before .loop .inv .0) (c .before .before .before .before .loop-test .taken) _ _ (c .before .before .wide .ensures .0) (c .wide2 .ensures .0) in
     let before = stands .0 in
     let end = stands .1 in
-    let room = stands .2 in
-    let s = c .before .before .before .before .before .before .before .before .before .before .before .args .message .now in
-    let at = c .before .before .before .before .before .before .before .loop .at in
-    let part = length-take-le (c .before .before .before .before .wide .result - at) (drop at s) (omega (arith, length-drop at s)) in
     omega arith
 
-wipe-requires : tie.Need-wipe-requires Inv-loop μ-loop
-wipe-requires c κs =
-    let stands = left-stands _ _ _ _ _ _ _ (c .before .before .before .before .before .before .before .before .before .before .before .loop .inv .0) (c .before .before .before .before .before .before .before .before .before .before .loop-test .taken) _ _ (c .before .before .before .before .before .before .before .before .wide .ensures .0) (c .before .before .before .before .before .before .wide2 .ensures .0) in
+part-put-start : tie.Need-part-put-start Inv-loop μ-loop
+part-put-start c =
+    let stands = left-stands _ _ _ _ _ _ _ (c .before .before .before .before .before .loop .inv .0) (c .before .before .before .before .loop-test .taken) _ _ (c .before .before .wide .ensures .0) (c .wide2 .ensures .0) in
+    let before = stands .0 in
     let end = stands .1 in
-    let room = stands .2 in
     omega arith
+
+part-put-end : tie.Need-part-put-end Inv-loop μ-loop
+part-put-end c =
+    let stands = left-stands _ _ _ _ _ _ _ (c .before .before .before .before .before .loop .inv .0) (c .before .before .before .before .loop-test .taken) _ _ (c .before .before .wide .ensures .0) (c .wide2 .ensures .0) in
+    let before = stands .0 in
+    let end = stands .1 in
+    omega arith
+
+put-requires : tie.Need-put-requires Inv-loop μ-loop
+put-requires c κs = search needs
+
+clear-requires : tie.Need-clear-requires Inv-loop μ-loop
+clear-requires c κs = search needs
 
 add-at : tie.Need-add-at Inv-loop μ-loop
 add-at c =
@@ -117,7 +110,7 @@ loop-again c =
     let first = c .before .before .before .before .before .before .before .before .before .before .before .wide .ensures .0 in
     let size = c .before .before .before .before .before .before .before .before .before .wide2 .ensures .0 in
     let inv = c .before .before .before .before .before .before .before .before .before .before .before .before .before .before .loop .inv in
-    (left-turn _ _ _ _ _ _ _ (inv .0) (c .before .before .before .before .before .before .before .before .before .before .before .before .before .loop-test .taken) _ _ (c .before .before .before .before .before .before .copy .last .1 .0) (c .before .before .wipe .last .0) first size (c .before .before .before .before .before .before .copy .ensures) (c .before .before .wipe .ensures) (omega arith), omega arith)
+    (left-turn _ _ _ _ _ _ _ (inv .0) (c .before .before .before .before .before .before .before .before .before .before .before .before .before .loop-test .taken) _ _ (c .before .before .before .before .before .before .put .last .1 .0) (c .before .before .clear .last .0) first size (c .before .before .before .before .before .before .put .ensures) (c .before .before .clear .ensures) (omega arith), omega arith)
 
 same-length : tie.Need-same-length Inv-loop μ-loop
 same-length c = search needs
@@ -142,11 +135,11 @@ blank-fields-spec =
     mul-wide-4
     shared-slice-read-wide-2
     wide-requires-2
-    sub-copy
-    part-copy-start
-    part-copy-end
-    copy-requires
-    wipe-requires
+    sub-put
+    part-put-start
+    part-put-end
+    put-requires
+    clear-requires
     add-at
     add-k
     loop-less

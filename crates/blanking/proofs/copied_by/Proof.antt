@@ -33,15 +33,13 @@ returns c =
     let short = copy-short (length (c .before .before .before .before .before .before .before .before .before .before .before .args .out .now)) _ _ _ _ (c .before .before .before .before .before .before .before .before .before .before .before .pre) _ said (c .before .if1 .taken) in
     (c .refuse .ensures ∙ sym (ap lengthOf short), sym (ap (outputAfter (c .before .before .before .before .before .before .before .before .before .before .before .args .out .now)) short))
 
-slice-aggregate-copy : tie.Need-slice-aggregate-copy
-slice-aggregate-copy c =
+slice-aggregate-put : tie.Need-slice-aggregate-put
+slice-aggregate-put c =
     let within = c .before .before .before .before .before .before .before .before .before .before .before .pre .within in
     sym (length-take-le _ (c .before .before .before .before .before .before .before .before .before .before .before .args .message .now) (omega arith))
 
-copy-requires : tie.Need-copy-requires
-copy-requires c κs =
-    let within = c .before .before .before .before .before .before .before .before .before .before .before .before .pre .within in
-    omega (arith, length-take-le (c .before .before .before .before .before .before .before .before .before .before .before .before .args .next) (c .before .before .before .before .before .before .before .before .before .before .before .before .args .message .now) within)
+put-requires : tie.Need-put-requires
+put-requires c κs = search needs
 
 blank-fields-requires : tie.Need-blank-fields-requires
 blank-fields-requires c κs =
@@ -67,7 +65,7 @@ same-length-4 c = search needs
 returns-3 : tie.Need-returns-3
 returns-3 c =
     let said = sym (c .before .before .before .before .before .before .before .before .before .before .before .before .before .before .before .payload .ensures .0 .0) ∙ ap told (c .before .before .before .before .before .before .before .before .before .before .before .enum-told .given .1) in
-    copy-made _ _ _ _ _ (c .before .before .before .before .before .before .before .before .before .before .before .before .before .before .before .before .before .before .before .before .pre) _ said _ _ _ refl (omega arith) (c .before .before .before .before .before .before .before .copy .ensures) (c .before .before .blank-fields .ensures)
+    copy-made _ _ _ _ _ (c .before .before .before .before .before .before .before .before .before .before .before .before .before .before .before .before .before .before .before .before .pre) _ said _ _ _ refl (omega arith) (c .before .before .before .before .before .before .before .put .ensures) (c .before .before .blank-fields .ensures)
 
 pub copied-by-spec : {M : Type 1} → statement M
 copied-by-spec =
@@ -79,8 +77,8 @@ copied-by-spec =
     refuse-requires
     same-length
     returns
-    slice-aggregate-copy
-    copy-requires
+    slice-aggregate-put
+    put-requires
     blank-fields-requires
     same-length-2
     returns-2

@@ -7,7 +7,8 @@ use lib.ListN.{length, set, length-set}
 use Rattle.asking.specs.Bytes.{bigBytes}
 use Rattle.puts.specs.Placing.{numberText}
 use Rattle.sim0mq.proofs.PlaceLaws.{placed-length}
-use Rattle.puts.proofs.PlaceLaws.{placed-coded, big-length, big-fits, put-fits, put-over}
+use Rattle.buffers.proofs.PlaceLaws.{put-fits, put-over}
+use Rattle.puts.proofs.PlaceLaws.{placed-coded, big-length, big-fits}
 use Rattle.puts.proofs.put_number.Statement.{statement}
 use Rattle.puts.proofs.put_number.Tie as tie
 

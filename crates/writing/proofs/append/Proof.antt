@@ -4,7 +4,7 @@ use native.Mathlib.Omega.{arith}
 use Prim.Native.Nat.{_+_, _≤_}
 use mathlib.Core.Path.{refl, _∙_}
 use lib.ListN.{length}
-use Rattle.puts.proofs.PlaceLaws.{put-fits}
+use Rattle.buffers.proofs.PlaceLaws.{put-fits}
 use Rattle.writing.proofs.AddCases.{told-as, takes-within, fitting-long, fitting-full, fitting-fine}
 use Rattle.writing.proofs.append.Statement.{statement}
 use Rattle.writing.proofs.append.Tie as tie

@@ -4,7 +4,8 @@ use native.Mathlib.Omega.{arith}
 use mathlib.Core.Path.{_∙_}
 use lib.ListN.{replicate}
 use Rattle.puts.specs.Placing.{numberText}
-use Rattle.puts.proofs.PlaceLaws.{big-length, put-fits}
+use Rattle.buffers.proofs.PlaceLaws.{put-fits}
+use Rattle.puts.proofs.PlaceLaws.{big-length}
 use Rattle.encoding.proofs.EncodeCases.{plain-encoded}
 use Rattle.encoding.proofs.scalars.plain.Statement.{statement}
 use Rattle.encoding.proofs.scalars.plain.Tie as tie
