@@ -1,6 +1,7 @@
 // Unit marks.
 ghost use mathlib.Core.Path.{_≡_};
-ghost use Prim.Native.Nat.{_<_};
+ghost use Prim.Native.Nat.{_<_, _≤_};
+ghost use lib.ListN.{length};
 ghost use Rattle.sim0mq.specs.Mark.{currencyTaken, displayTaken, currency as currencyOf, display as displayOf, mark as markOf, marks as marksOf};
 ghost use Rattle.sim0mq.specs.Views.{judged};
 use numbers::number;
@@ -25,11 +26,9 @@ pub fn display_taken(t: usize, d: u8) -> bool
 
 // The currency code at `at`: the place after it.
 fn currency(s: &[u8], at: usize) -> Judged
+    requires { ⌜ at ≤ length (now s) ⌝ }
     ensures { λ r. ⌜ judged r ≡ currencyOf (now (s .entry)) at ⌝ }
 {
-    if s.len() <= at {
-        return sim0mq::refuse(1, s.len());
-    }
     if s.len() - at < 2 {
         return sim0mq::refuse(1, s.len());
     }

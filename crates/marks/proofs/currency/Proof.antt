@@ -8,20 +8,14 @@ use Rattle.numbers.proofs.NumberCases.{number-there}
 use Rattle.marks.proofs.currency.Statement.{statement}
 use Rattle.marks.proofs.currency.Tie as tie
 
+sub-if1 : tie.Need-sub-if1
+sub-if1 c = search needs
+
 refuse-requires : tie.Need-refuse-requires
 refuse-requires c κs = search needs
 
 returns : tie.Need-returns
 returns c = c .refuse .ensures ∙ sym (currency-short _ _ (omega arith))
-
-sub-if2 : tie.Need-sub-if2
-sub-if2 c = search needs
-
-refuse-requires-2 : tie.Need-refuse-requires-2
-refuse-requires-2 c κs = search needs
-
-returns-2 : tie.Need-returns-2
-returns-2 c = c .refuse2 .ensures ∙ sym (currency-short _ _ (omega arith))
 
 number-requires : tie.Need-number-requires
 number-requires c κs = search needs
@@ -29,34 +23,32 @@ number-requires c κs = search needs
 currency-taken-requires : tie.Need-currency-taken-requires
 currency-taken-requires c κs = search needs
 
-add-t9 : tie.Need-add-t9
-add-t9 c = search needs
+add-t8 : tie.Need-add-t8
+add-t8 c = search needs
+
+returns-2 : tie.Need-returns-2
+returns-2 c =
+    let number = sym (number-there _ _ 2 (omega arith) (omega arith)) ∙ sym (c .before .before .number .ensures .0) in
+    sym (currency-fine _ _ (omega arith) (ap currencyTaken number ∙ sym (c .before .currency-taken .ensures) ∙ c .if2 .taken))
+
+refuse-requires-2 : tie.Need-refuse-requires-2
+refuse-requires-2 c κs = search needs
 
 returns-3 : tie.Need-returns-3
 returns-3 c =
-    let number = sym (number-there _ _ 2 (omega arith) (omega arith)) ∙ sym (c .before .before .number .ensures .0) in
-    sym (currency-fine _ _ (omega arith) (ap currencyTaken number ∙ sym (c .before .currency-taken .ensures) ∙ c .if3 .taken))
-
-refuse-requires-3 : tie.Need-refuse-requires-3
-refuse-requires-3 c κs = search needs
-
-returns-4 : tie.Need-returns-4
-returns-4 c =
     let number = sym (number-there _ _ 2 (omega arith) (omega arith)) ∙ sym (c .before .before .before .number .ensures .0) in
-    c .refuse3 .ensures ∙ sym (currency-over _ _ (omega arith) (ap currencyTaken number ∙ sym (c .before .before .currency-taken .ensures) ∙ c .before .if3 .left))
+    c .refuse2 .ensures ∙ sym (currency-over _ _ (omega arith) (ap currencyTaken number ∙ sym (c .before .before .currency-taken .ensures) ∙ c .before .if2 .left))
 
 pub currency-spec : {M : Type 1} → statement M
 currency-spec =
     tie.close
     (tie.spec
+    sub-if1
     refuse-requires
     returns
-    sub-if2
-    refuse-requires-2
-    returns-2
     number-requires
     currency-taken-requires
-    add-t9
-    returns-3
-    refuse-requires-3
-    returns-4)
+    add-t8
+    returns-2
+    refuse-requires-2
+    returns-3)
