@@ -35,6 +35,7 @@ use Rattle.tables.proofs.marking.Reads as marking
 use Rattle.tables.proofs.width.Reads as width
 use Rattle.tables.proofs.last.Reads as last
 use Rattle.tables.proofs.per.Reads as per
+use Rattle.magic.proofs.magic.Reads as magic
 use Rattle.header.proofs.header.Reads as header
 use Rattle.header.proofs.id.Reads as id
 use Rattle.reading.proofs.opened.Reads as opened
@@ -202,6 +203,10 @@ payload-kept = equated payload.Post (λ κs z e. now (e .1 .1 .1 .1 .0)) _ (λ �
 
 pub kept-wide-result : Determines kept-wide.Post (λ κs z e. z)
 kept-wide-result = equated kept-wide.Post (λ κs z e. z) _ (λ κs a z e p. p .0)
+
+-- The call of crate magic.
+pub magic-result : Determines magic.Post (λ κs z e. z)
+magic-result = determined magic.Post (λ κs z e. z) (λ κs. judged) (λ κs. judged-apart) _ (λ κs a z e p. p)
 
 -- The calls of crate header.
 pub header-result : Determines header.Post (λ κs z e. z)

@@ -1,14 +1,14 @@
 -- What the header's functions answer, over the definitions of the format.
 use Prim.Native.Nat.{ℕ, zero, suc, _+_}
 use mathlib.Core.Path.{_≡_}
-use mathlib.Core.Bool.{true, false, cond, _&&_}
+use mathlib.Core.Bool.{true, false, cond}
 use mathlib.Core.List.{List, [], _∷_, _++_, map}
 use lib.Dec.{leb, eqb}
-use Rattle.sim0mq.specs.Answer.{Answer, fine, refused, _>>=_, _>>_, guard, big}
+use Rattle.sim0mq.specs.Answer.{Answer, fine, refused, _>>=_, big}
 use Rattle.sim0mq.specs.Codes.{boolean}
 use Rattle.sim0mq.specs.Field.{Field, after}
 use Rattle.sim0mq.specs.Header as H
-use Rattle.sim0mq.specs.Header.{magicBytes, idCodes, numberCodes, literal, frame, status, declared, frameOf, among}
+use Rattle.sim0mq.specs.Header.{idCodes, numberCodes, frame, status, declared, frameOf, among}
 use Rattle.sim0mq.specs.declared.Refusal.{Refusal}
 use Rattle.fields.specs.Items.{seen}
 use Rattle.header.specs.declared.Frame.{Frame}
@@ -16,15 +16,6 @@ use Rattle.header.specs.declared.Answer as A
 use Rattle.header.specs.declared.Said.the-variants.{Accepted, Refused}
 use Rattle.header.specs.declared.Counted.{Counted}
 use Rattle.header.specs.declared.Counted.the-variants.{Accepted as Counted·Accepted, Refused as Counted·Refused}
-
--- Frame 0 before its digits, and its end where the digits are the edition's.
-abbrev pub literalEnd : List ℕ → Answer ℕ
-literalEnd s = literal s magicBytes 0
-
-unfoldable pub editionEnd : ℕ → ℕ → Answer ℕ
-editionEnd a b = do
-  guard (eqb a 48 && eqb b 49) 3 8
-  fine 10
 
 -- None of these codes is a Boolean's.
 abbrev pub NoBoolean : List ℕ → Type 0

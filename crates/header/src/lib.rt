@@ -1,14 +1,13 @@
 // The header: the eight frames, in and out as an array by value.
 ghost use mathlib.Core.Path.{_≡_};
-ghost use Rattle.sim0mq.specs.Header.{idCodes, among as amongOf, digit as digitOf, magic as magicOf, frame as frameOf, status as statusOf, header as headerOf};
-ghost use Rattle.sim0mq.specs.Views.{judged};
+ghost use Rattle.sim0mq.specs.Header.{idCodes, among as amongOf, frame as frameOf, status as statusOf, header as headerOf};
 ghost use Rattle.fields.specs.Items.{fielded};
-ghost use Rattle.header.specs.Frames.{literalEnd, editionEnd, NoBoolean, nthFrame, counted, declaredNumber, headerRest, refusedAs, told};
+ghost use Rattle.header.specs.Frames.{NoBoolean, nthFrame, counted, declaredNumber, headerRest, refusedAs, told};
 use fields::Field;
 use fields::Fielded;
 use fields::outline;
+use magic::magic;
 use numbers::number;
-use numbers::wide;
 use sim0mq::Judged;
 use sim0mq::Refusal;
 
@@ -35,8 +34,6 @@ pub struct Answer {
     pub frames: [Frame; 8],
 }
 
-const MAGIC: [u8; 8] = [9, 0, 0, 0, 5, 83, 73, 77];
-
 const ID_CODES: [u8; 4] = [9, 10, 1, 2];
 
 const NUMBER_CODES: [u8; 1] = [3];
@@ -44,70 +41,6 @@ const NUMBER_CODES: [u8; 1] = [3];
 const STATUS_CODES: [u8; 1] = [0];
 
 const COUNT_CODES: [u8; 3] = [0, 1, 2];
-
-// Frame 0 before its digits: the place after it.
-fn literal(s: &[u8]) -> Judged
-    ensures { λ r. ⌜ judged r ≡ literalEnd (now (s .entry)) ⌝ }
-{
-    let mut i: usize = 0;
-    while i < 8 {
-        if s.len() <= i {
-            return sim0mq::refuse(1, s.len());
-        }
-        if s[i] == MAGIC[i] {
-            i += 1;
-        } else {
-            return sim0mq::refuse(2, i);
-        }
-    }
-    Judged::Accepted(8)
-}
-
-// The digit at `at`.
-fn digit(s: &[u8], at: usize) -> Judged
-    ensures { λ r. ⌜ judged r ≡ digitOf (now (s .entry)) at ⌝ }
-{
-    if s.len() <= at {
-        return sim0mq::refuse(1, s.len());
-    }
-    let d = wide(s[at]);
-    if d < 48 {
-        return sim0mq::refuse(2, at);
-    }
-    if 57 < d {
-        return sim0mq::refuse(2, at);
-    }
-    Judged::Accepted(d)
-}
-
-// Frame 0: the place after it.
-fn magic(s: &[u8]) -> Judged
-    ensures { λ r. ⌜ judged r ≡ magicOf (now (s .entry)) ⌝ }
-{
-    match literal(s) {
-        Judged::Refused(r) => Judged::Refused(r),
-        Judged::Accepted(_) => match digit(s, 8) {
-            Judged::Refused(r) => Judged::Refused(r),
-            Judged::Accepted(a) => match digit(s, 9) {
-                Judged::Refused(r) => Judged::Refused(r),
-                Judged::Accepted(b) => edition(a, b),
-            },
-        },
-    }
-}
-
-// Frame 0's end where its digits are 0 and 1 in ASCII.
-fn edition(a: usize, b: usize) -> Judged
-    ensures { λ r. ⌜ judged r ≡ editionEnd a b ⌝ }
-{
-    if a != 48 {
-        return sim0mq::refuse(3, 8);
-    }
-    if b != 49 {
-        return sim0mq::refuse(3, 8);
-    }
-    Judged::Accepted(10)
-}
 
 // Whether k is one of these numbers.
 fn among(k: u8, row: &[u8]) -> bool

@@ -1,5 +1,4 @@
 -- Each arm has the row's entry, and past the row's end there is none.
-use native.Mathlib.Omega.{arith}
 use borrow.Author.Needs.{needs}
 use Rattle.sim0mq.specs.Mark.{lastRow}
 use Rattle.tables.proofs.TableCases.{past, none-below}

@@ -2,9 +2,9 @@
 use native.Mathlib.Omega.{arith}
 use borrow.Author.Needs.{needs}
 use mathlib.Core.Path.{sym, _∙_}
-use Rattle.header.proofs.FrameCases.{digit-short, digit-low, digit-high, digit-fine}
-use Rattle.header.proofs.digit.Statement.{statement}
-use Rattle.header.proofs.digit.Tie as tie
+use Rattle.magic.proofs.MagicCases.{digit-short, digit-low, digit-high, digit-fine}
+use Rattle.magic.proofs.digit.Statement.{statement}
+use Rattle.magic.proofs.digit.Tie as tie
 
 refuse-requires : tie.Need-refuse-requires
 refuse-requires c κs = search needs

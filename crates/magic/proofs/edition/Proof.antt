@@ -1,9 +1,9 @@
 -- Each return is a case of the definition.
 use borrow.Author.Needs.{needs}
 use mathlib.Core.Path.{sym, _∙_}
-use Rattle.header.proofs.FrameCases.{edition-fine, edition-first, edition-second}
-use Rattle.header.proofs.edition.Statement.{statement}
-use Rattle.header.proofs.edition.Tie as tie
+use Rattle.magic.proofs.MagicCases.{edition-fine, edition-first, edition-second}
+use Rattle.magic.proofs.edition.Statement.{statement}
+use Rattle.magic.proofs.edition.Tie as tie
 
 refuse-requires : tie.Need-refuse-requires
 refuse-requires c κs = search needs

@@ -2,9 +2,9 @@
 use borrow.Author.Needs.{needs}
 use mathlib.Core.Path.{sym, ap, _∙_}
 use Rattle.sim0mq.specs.Views.{judged}
-use Rattle.header.proofs.FrameCases.{magic-stop, magic-first, magic-second, magic-edition}
-use Rattle.header.proofs.magic.Statement.{statement}
-use Rattle.header.proofs.magic.Tie as tie
+use Rattle.magic.proofs.MagicCases.{magic-stop, magic-first, magic-second, magic-edition}
+use Rattle.magic.proofs.magic.Statement.{statement}
+use Rattle.magic.proofs.magic.Tie as tie
 
 literal-requires : tie.Need-literal-requires
 literal-requires c κs = search needs

@@ -6,9 +6,9 @@ use native.Mathlib.Omega.{arith}
 use Prim.Native.Nat.{_≤_, _-_}
 use lib.ListN.{drop}
 use Rattle.sim0mq.specs.Header.{literal, magicBytes}
-use Rattle.header.proofs.FrameCases.{literal-short, literal-wrong, literal-next, literal-done}
-use Rattle.header.proofs.literal.Statement.{statement}
-use Rattle.header.proofs.literal.Tie as tie
+use Rattle.magic.proofs.MagicCases.{literal-short, literal-wrong, literal-next, literal-done}
+use Rattle.magic.proofs.literal.Statement.{statement}
+use Rattle.magic.proofs.literal.Tie as tie
 
 abbrev Inv-loop : tie.InvT-loop
 Inv-loop s i₀ i = (literal s magicBytes 0 ≡ literal s (drop i magicBytes) i) × (i ≤ 8)
