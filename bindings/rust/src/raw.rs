@@ -158,7 +158,6 @@ extern "C" {
 }
 
 /// Reads a message, and stores its rows in the table once it is accepted.
-#[inline]
 pub fn read(message: &[u8], table: &mut [u32], answer: &mut [u64]) -> u32 {
     let (rows, room) = (table.as_mut_ptr(), table.len());
     let (numbers, many) = (answer.as_mut_ptr(), answer.len());
@@ -167,28 +166,24 @@ pub fn read(message: &[u8], table: &mut [u32], answer: &mut [u64]) -> u32 {
 }
 
 /// Judges a message as reading does, with no table.
-#[inline]
 pub fn judge(message: &[u8], answer: &mut [u64]) -> u32 {
     // SAFETY: as in `read`.
     unsafe { sim0mq_judge(message.as_ptr(), message.len(), answer.as_mut_ptr(), answer.len()) }
 }
 
 /// The value of field k, where it is a scalar.
-#[inline]
 pub fn value(message: &[u8], k: u64, answer: &mut [u64]) -> u32 {
     // SAFETY: as in `read`.
     unsafe { sim0mq_value(message.as_ptr(), message.len(), k, answer.as_mut_ptr(), answer.len()) }
 }
 
 /// Where the value bytes of field k stand.
-#[inline]
 pub fn view(message: &[u8], k: u64, answer: &mut [u64]) -> u32 {
     // SAFETY: as in `read`.
     unsafe { sim0mq_view(message.as_ptr(), message.len(), k, answer.as_mut_ptr(), answer.len()) }
 }
 
 /// Copies a message to `out` with zero in every payload value byte.
-#[inline]
 pub fn blank(message: &[u8], out: &mut [u8], answer: &mut [u64]) -> u32 {
     let (copy, room) = (out.as_mut_ptr(), out.len());
     let (numbers, many) = (answer.as_mut_ptr(), answer.len());
@@ -197,7 +192,6 @@ pub fn blank(message: &[u8], out: &mut [u8], answer: &mut [u64]) -> u32 {
 }
 
 /// Opens a message in `out`.
-#[inline]
 pub fn open(opening: &Opening<'_>, out: &mut [u8], answer: &mut [u64]) -> u32 {
     let Opening { ids, number, status, fields, count_type } = *opening;
     let (stated, kind) = (u8::from(count_type.is_some()), count_type.unwrap_or(0));
@@ -211,7 +205,6 @@ pub fn open(opening: &Opening<'_>, out: &mut [u8], answer: &mut [u64]) -> u32 {
 }
 
 /// Adds an encoded field to `out`.
-#[inline]
 pub fn add(taken: State, field: &[u8], out: &mut [u8], answer: &mut [u64]) -> u32 {
     let State { written, declared, added, closed } = taken;
     let (bytes, length) = (field.as_ptr(), field.len());
@@ -224,7 +217,6 @@ pub fn add(taken: State, field: &[u8], out: &mut [u8], answer: &mut [u64]) -> u3
 }
 
 /// Adds a scalar to `out`.
-#[inline]
 pub fn add_scalar(taken: State, scalar: Scalar, out: &mut [u8], answer: &mut [u64]) -> u32 {
     let State { written, declared, added, closed } = taken;
     let Scalar { kind, bits, unit, currency, display } = scalar;
@@ -240,7 +232,6 @@ pub fn add_scalar(taken: State, scalar: Scalar, out: &mut [u8], answer: &mut [u6
 }
 
 /// Closes a message.
-#[inline]
 pub fn close(taken: State, answer: &mut [u64]) -> u32 {
     let State { written, declared, added, closed } = taken;
     // SAFETY: as in `read`.
