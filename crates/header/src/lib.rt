@@ -139,10 +139,19 @@ fn declared(s: &[u8], at: usize) -> Counted
     }
 }
 
-// The id frame at `at`, one of frames 1 to 4.
+// The id frame at `at`, one of frames 1 to 4. A string of bytes, the usual id, has a way of its own.
 pub fn id(s: &[u8], at: usize) -> Fielded
     ensures { λ r. ⌜ fielded r ≡ frameOf (now (s .entry)) idCodes at ⌝ }
 {
+    if s.len() <= at {
+        return Fielded::Refused(Refusal {
+            number: 1,
+            place: s.len(),
+        });
+    }
+    if s[at] == 9 {
+        return outline(s, at);
+    }
     typed(s, &ID_CODES, at)
 }
 
@@ -151,7 +160,7 @@ fn nth(s: &[u8], k: usize, at: usize) -> Fielded
     ensures { λ r. ⌜ fielded r ≡ nthFrame (now (s .entry)) k at ⌝ }
 {
     if k <= 4 {
-        return id(s, at);
+        return typed(s, &ID_CODES, at);
     }
     if k == 5 {
         return typed(s, &NUMBER_CODES, at);
