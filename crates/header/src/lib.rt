@@ -143,14 +143,10 @@ fn declared(s: &[u8], at: usize) -> Counted
 pub fn id(s: &[u8], at: usize) -> Fielded
     ensures { λ r. ⌜ fielded r ≡ frameOf (now (s .entry)) idCodes at ⌝ }
 {
-    if s.len() <= at {
-        return Fielded::Refused(Refusal {
-            number: 1,
-            place: s.len(),
-        });
-    }
-    if s[at] == 9 {
-        return outline(s, at);
+    if at < s.len() {
+        if s[at] == 9 {
+            return outline(s, at);
+        }
     }
     typed(s, &ID_CODES, at)
 }

@@ -2,15 +2,12 @@
 use native.Mathlib.Omega.{arith}
 use borrow.Author.Needs.{needs}
 use Prim.Native.Nat.{ℕ}
-use mathlib.Core.Path.{sym, ap, _∙_}
+use mathlib.Core.Path.{ap, _∙_}
 use Rattle.sim0mq.specs.Header.{idCodes, among}
 use Rattle.sim0mq.proofs.Rows.{id-not-boolean}
-use Rattle.header.proofs.FrameCases.{frame-short, frame-outline}
+use Rattle.header.proofs.FrameCases.{frame-outline}
 use Rattle.header.proofs.id.Statement.{statement}
 use Rattle.header.proofs.id.Tie as tie
-
-returns : tie.Need-returns
-returns c = sym (frame-short _ _ _ (omega arith))
 
 shared-slice-read-if2 : tie.Need-shared-slice-read-if2
 shared-slice-read-if2 c = search needs
@@ -18,9 +15,9 @@ shared-slice-read-if2 c = search needs
 outline-requires : tie.Need-outline-requires
 outline-requires c κs = search needs
 
-returns-2 : tie.Need-returns-2
+returns : tie.Need-returns
 unfolding among
-returns-2 c = c .outline .ensures ∙ frame-outline _ idCodes _ (omega arith) (ap (λ (k : ℕ). among k idCodes) (c .before .if2 .taken)) id-not-boolean
+returns c = c .outline .ensures ∙ frame-outline _ idCodes _ (omega arith) (ap (λ (k : ℕ). among k idCodes) (c .before .if2 .taken)) id-not-boolean
 
 slice-aggregate-typed : tie.Need-slice-aggregate-typed
 slice-aggregate-typed c = search needs
@@ -28,10 +25,10 @@ slice-aggregate-typed c = search needs
 typed-requires : tie.Need-typed-requires
 typed-requires c κs = id-not-boolean
 
-returns-3 : tie.Need-returns-3
-returns-3 c = c .typed .ensures
+returns-2 : tie.Need-returns-2
+returns-2 c = c .typed .ensures
 
 pub id-spec : {M : Type 1} → statement M
 id-spec =
     tie.close
-    (tie.spec returns shared-slice-read-if2 outline-requires returns-2 slice-aggregate-typed typed-requires returns-3)
+    (tie.spec shared-slice-read-if2 outline-requires returns slice-aggregate-typed typed-requires returns-2)
