@@ -8,11 +8,11 @@ ghost use Rattle.reading.specs.Answers.{answered};
 ghost use Rattle.asking.specs.Asking.{asked};
 ghost use Rattle.asking.specs.Scalars.{value as valueOf};
 ghost use Rattle.blanking.specs.Blanking.{lengthOf};
-ghost use Rattle.opening.specs.Opening.{bufferAfter};
-ghost use Rattle.writing.specs.Writing.{asksFor, opening, afterOpening, encoded, scalar, adding, afterAdding, closing, afterClosing};
-ghost use Rattle.crossing.specs.Numbers.{readNumbers, lengthNumbers, viewNumbers, writerOf, wroteNumbers, countType};
+ghost use Rattle.writing.specs.Writing.{asksFor, encoded, scalar};
+ghost use Rattle.crossing.specs.Numbers.{readNumbers, lengthNumbers, viewNumbers, writerOf, countType};
 ghost use Rattle.casting.specs.Casting.{valueNumbers, markFrom, scalarFrom};
 ghost use Rattle.exports.specs.Given.{given, returned, answerAfter};
+ghost use Rattle.exports.specs.Calls.{openNumbers, openedIn, addNumbers, addedIn, closeNumbers};
 use crate::giving::give;
 use crate::giving::give_read;
 use crate::giving::give_wrote;
@@ -134,9 +134,9 @@ pub extern "C" fn sim0mq_open(
     out: &mut [u8],
     answer: &mut [u64],
 ) -> u32
-    ensures returned { λ r. ⌜ r ≡ returned 7 (now (answer .entry)) (wroteNumbers (afterOpening (asksFor (now (ids .entry)) number status fields (countType stated kind)) (opening (asksFor (now (ids .entry)) number status fields (countType stated kind)) (length (now (out .entry)))))) ⌝ }
-    ensures written { λ _. ⌜ now (out .exit) ≡ given 7 (now (answer .entry)) (bufferAfter (now (out .entry)) 0 (opening (asksFor (now (ids .entry)) number status fields (countType stated kind)) (length (now (out .entry))))) (now (out .entry)) ⌝ }
-    ensures answered { λ _. ⌜ now (answer .exit) ≡ answerAfter 7 (now (answer .entry)) (wroteNumbers (afterOpening (asksFor (now (ids .entry)) number status fields (countType stated kind)) (opening (asksFor (now (ids .entry)) number status fields (countType stated kind)) (length (now (out .entry)))))) ⌝ }
+    ensures returned { λ r. ⌜ r ≡ returned 7 (now (answer .entry)) (openNumbers (asksFor (now (ids .entry)) number status fields (countType stated kind)) (length (now (out .entry)))) ⌝ }
+    ensures written { λ _. ⌜ now (out .exit) ≡ given 7 (now (answer .entry)) (openedIn (asksFor (now (ids .entry)) number status fields (countType stated kind)) (now (out .entry))) (now (out .entry)) ⌝ }
+    ensures answered { λ _. ⌜ now (answer .exit) ≡ answerAfter 7 (now (answer .entry)) (openNumbers (asksFor (now (ids .entry)) number status fields (countType stated kind)) (length (now (out .entry)))) ⌝ }
 {
     if answer.len() < OPEN {
         return TOO_SHORT;
@@ -163,9 +163,9 @@ pub extern "C" fn sim0mq_add(
     out: &mut [u8],
     answer: &mut [u64],
 ) -> u32
-    ensures returned { λ r. ⌜ r ≡ returned 7 (now (answer .entry)) (wroteNumbers (afterAdding (writerOf written declared added closed) (adding (writerOf written declared added closed) (length (now (out .entry))) (encoded (now (field .entry)))))) ⌝ }
-    ensures written { λ _. ⌜ now (out .exit) ≡ given 7 (now (answer .entry)) (bufferAfter (now (out .entry)) written (adding (writerOf written declared added closed) (length (now (out .entry))) (encoded (now (field .entry))))) (now (out .entry)) ⌝ }
-    ensures answered { λ _. ⌜ now (answer .exit) ≡ answerAfter 7 (now (answer .entry)) (wroteNumbers (afterAdding (writerOf written declared added closed) (adding (writerOf written declared added closed) (length (now (out .entry))) (encoded (now (field .entry)))))) ⌝ }
+    ensures returned { λ r. ⌜ r ≡ returned 7 (now (answer .entry)) (addNumbers (writerOf written declared added closed) (length (now (out .entry))) (encoded (now (field .entry)))) ⌝ }
+    ensures written { λ _. ⌜ now (out .exit) ≡ given 7 (now (answer .entry)) (addedIn (writerOf written declared added closed) (now (out .entry)) (encoded (now (field .entry)))) (now (out .entry)) ⌝ }
+    ensures answered { λ _. ⌜ now (answer .exit) ≡ answerAfter 7 (now (answer .entry)) (addNumbers (writerOf written declared added closed) (length (now (out .entry))) (encoded (now (field .entry)))) ⌝ }
 {
     if answer.len() < ADD {
         return TOO_SHORT;
@@ -189,9 +189,9 @@ pub extern "C" fn sim0mq_add_scalar(
     out: &mut [u8],
     answer: &mut [u64],
 ) -> u32
-    ensures returned { λ r. ⌜ r ≡ returned 7 (now (answer .entry)) (wroteNumbers (afterAdding (writerOf written declared added closed) (adding (writerOf written declared added closed) (length (now (out .entry))) (scalar (scalarFrom kind bits (markFrom unit currency display)))))) ⌝ }
-    ensures written { λ _. ⌜ now (out .exit) ≡ given 7 (now (answer .entry)) (bufferAfter (now (out .entry)) written (adding (writerOf written declared added closed) (length (now (out .entry))) (scalar (scalarFrom kind bits (markFrom unit currency display))))) (now (out .entry)) ⌝ }
-    ensures answered { λ _. ⌜ now (answer .exit) ≡ answerAfter 7 (now (answer .entry)) (wroteNumbers (afterAdding (writerOf written declared added closed) (adding (writerOf written declared added closed) (length (now (out .entry))) (scalar (scalarFrom kind bits (markFrom unit currency display)))))) ⌝ }
+    ensures returned { λ r. ⌜ r ≡ returned 7 (now (answer .entry)) (addNumbers (writerOf written declared added closed) (length (now (out .entry))) (scalar (scalarFrom kind bits (markFrom unit currency display)))) ⌝ }
+    ensures written { λ _. ⌜ now (out .exit) ≡ given 7 (now (answer .entry)) (addedIn (writerOf written declared added closed) (now (out .entry)) (scalar (scalarFrom kind bits (markFrom unit currency display)))) (now (out .entry)) ⌝ }
+    ensures answered { λ _. ⌜ now (answer .exit) ≡ answerAfter 7 (now (answer .entry)) (addNumbers (writerOf written declared added closed) (length (now (out .entry))) (scalar (scalarFrom kind bits (markFrom unit currency display)))) ⌝ }
 {
     if answer.len() < ADD_SCALAR {
         return TOO_SHORT;
@@ -215,8 +215,8 @@ pub extern "C" fn sim0mq_close(
     closed: u8,
     answer: &mut [u64],
 ) -> u32
-    ensures returned { λ r. ⌜ r ≡ returned 7 (now (answer .entry)) (wroteNumbers (afterClosing (writerOf written declared added closed) (closing (writerOf written declared added closed)))) ⌝ }
-    ensures answered { λ _. ⌜ now (answer .exit) ≡ answerAfter 7 (now (answer .entry)) (wroteNumbers (afterClosing (writerOf written declared added closed) (closing (writerOf written declared added closed)))) ⌝ }
+    ensures returned { λ r. ⌜ r ≡ returned 7 (now (answer .entry)) (closeNumbers (writerOf written declared added closed)) ⌝ }
+    ensures answered { λ _. ⌜ now (answer .exit) ≡ answerAfter 7 (now (answer .entry)) (closeNumbers (writerOf written declared added closed)) ⌝ }
 {
     if answer.len() < CLOSE {
         return TOO_SHORT;

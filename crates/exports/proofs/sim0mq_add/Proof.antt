@@ -2,7 +2,6 @@
 use borrow.Author.Needs.{needs}
 use mathlib.Core.Path.{refl, ap, _∙_}
 use Rattle.writing.specs.Writing.{encoded}
-use Rattle.crossing.specs.Numbers.{wroteNumbers}
 use Rattle.exports.proofs.GivenLaws.{given-short, given-room, returned-short, answered-short, returned-room, answered-room}
 use Rattle.exports.proofs.WriterLaws.{added-as, buffer-as}
 use Rattle.exports.proofs.sim0mq_add.Statement.{statement}
@@ -31,7 +30,7 @@ returns-2 c =
     let w = c .before .before .before .before .before .before .before .before in
     let room = w .before .if1 .left in
     let args = w .before .before .before .before .before .args in
-    let e = ap wroteNumbers (added-as _ _ (w .writer-of .ensures) (encoded (args .field .now)) _ refl _ _ (c .before .before .before .before .before .before .add .ensures .0)) in
+    let e = added-as _ _ (w .writer-of .ensures) (encoded (args .field .now)) _ refl _ _ (c .before .before .before .before .before .before .add .ensures .0) in
     let out = buffer-as _ _ (w .writer-of .ensures) (encoded (args .field .now)) _ refl (args .out .now) _ (c .before .before .before .before .before .before .add .ensures .1) in
     (returned-room _ _ _ _ _ room e (c .before .before .give-wrote .ensures .0), (out ∙ given-room _ _ _ _ room, answered-room _ _ _ _ _ room e (c .before .before .give-wrote .ensures .1)))
 

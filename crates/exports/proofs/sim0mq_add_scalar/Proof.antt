@@ -2,7 +2,6 @@
 use borrow.Author.Needs.{needs}
 use mathlib.Core.Path.{ap, _∙_}
 use Rattle.writing.specs.Writing.{scalar}
-use Rattle.crossing.specs.Numbers.{wroteNumbers}
 use Rattle.exports.proofs.GivenLaws.{given-short, given-room, returned-short, answered-short, returned-room, answered-room}
 use Rattle.exports.proofs.WriterLaws.{added-as, buffer-as}
 use Rattle.exports.proofs.sim0mq_add_scalar.Statement.{statement}
@@ -35,7 +34,7 @@ returns-2 c =
     let room = v .before .if1 .left in
     let is = c .before .before .before .before .before .before .before .before .writer-of .ensures in
     let same = ap scalar (v .scalar-from .ensures) in
-    let e = ap wroteNumbers (added-as _ _ is _ _ same _ _ (c .before .before .before .before .before .before .add-scalar .ensures .0)) in
+    let e = added-as _ _ is _ _ same _ _ (c .before .before .before .before .before .before .add-scalar .ensures .0) in
     let out = buffer-as _ _ is _ _ same (c .before .before .before .before .before .before .before .before .before .before .before .before .before .args .out .now) _ (c .before .before .before .before .before .before .add-scalar .ensures .1) in
     (returned-room _ _ _ _ _ room e (c .before .before .give-wrote .ensures .0), (out ∙ given-room _ _ _ _ room, answered-room _ _ _ _ _ room e (c .before .before .give-wrote .ensures .1)))
 

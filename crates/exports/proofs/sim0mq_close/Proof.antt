@@ -1,7 +1,6 @@
 -- Where there is room, the numbers are those of what `close` answers to the state that its numbers tell.
 use borrow.Author.Needs.{needs}
 use mathlib.Core.Path.{ap}
-use Rattle.crossing.specs.Numbers.{wroteNumbers}
 use Rattle.exports.proofs.GivenLaws.{returned-short, answered-short, returned-room, answered-room}
 use Rattle.exports.proofs.WriterLaws.{closed-as}
 use Rattle.exports.proofs.sim0mq_close.Statement.{statement}
@@ -25,7 +24,7 @@ same-length c = search needs
 returns-2 : tie.Need-returns-2
 returns-2 c =
     let room = c .before .before .before .before .before .before .if1 .left in
-    let e = ap wroteNumbers (closed-as _ _ (c .before .before .before .before .before .writer-of .ensures) _ (c .before .before .before .before .close .ensures)) in
+    let e = closed-as _ _ (c .before .before .before .before .before .writer-of .ensures) _ (c .before .before .before .before .close .ensures) in
     (returned-room _ _ _ _ _ room e (c .before .before .give-wrote .ensures .0), answered-room _ _ _ _ _ room e (c .before .before .give-wrote .ensures .1))
 
 pub sim0mq-close-spec : {M : Type 1} → statement M

@@ -3,7 +3,6 @@ use borrow.Author.Needs.{needs}
 use mathlib.Core.Path.{ap, _∙_}
 use mir.Syntax.{w64}
 use mir.ValLaws.{toZ-ofZ}
-use Rattle.crossing.specs.Numbers.{wroteNumbers}
 use Rattle.exports.proofs.GivenLaws.{given-short, given-room, returned-short, answered-short, returned-room, answered-room}
 use Rattle.exports.proofs.WriterLaws.{opened-as, header-as}
 use Rattle.exports.proofs.sim0mq_open.Statement.{statement}
@@ -33,7 +32,7 @@ returns-2 c =
     let room = c .before .before .before .before .before .before .before .before .before .if1 .left in
     let same = toZ-ofZ w64 (start .args .number) (start .fits .number) in
     let is = c .before .before .before .before .before .before .before .before .count-type .ensures in
-    let e = ap wroteNumbers (opened-as _ _ _ _ _ _ _ same is _ _ (c .before .before .before .before .before .before .open .ensures .0)) in
+    let e = opened-as _ _ _ _ _ _ _ same is _ _ (c .before .before .before .before .before .before .open .ensures .0) in
     let out = header-as _ _ _ _ _ _ _ same is (start .args .out .now) _ (c .before .before .before .before .before .before .open .ensures .1) in
     (returned-room _ _ _ _ _ room e (c .before .before .give-wrote .ensures .0), (out ∙ given-room _ _ _ _ room, answered-room _ _ _ _ _ room e (c .before .before .give-wrote .ensures .1)))
 
