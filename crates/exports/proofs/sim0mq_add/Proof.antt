@@ -1,6 +1,6 @@
 -- Where there is room, the numbers are those of what `add` answers to the state that its numbers tell, and `out` is as it leaves it.
 use borrow.Author.Needs.{needs}
-use mathlib.Core.Path.{refl, ap, _∙_}
+use mathlib.Core.Path.{refl, _∙_}
 use Rattle.writing.specs.Writing.{encoded}
 use Rattle.exports.proofs.GivenLaws.{given-short, given-room, returned-short, answered-short, returned-room, answered-room}
 use Rattle.exports.proofs.WriterLaws.{added-as, buffer-as}

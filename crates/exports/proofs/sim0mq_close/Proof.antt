@@ -1,6 +1,5 @@
 -- Where there is room, the numbers are those of what `close` answers to the state that its numbers tell.
 use borrow.Author.Needs.{needs}
-use mathlib.Core.Path.{ap}
 use Rattle.exports.proofs.GivenLaws.{returned-short, answered-short, returned-room, answered-room}
 use Rattle.exports.proofs.WriterLaws.{closed-as}
 use Rattle.exports.proofs.sim0mq_close.Statement.{statement}

@@ -1,6 +1,6 @@
 -- Where there is room, the numbers are those of what `open` answers, and `out` is as it leaves it.
 use borrow.Author.Needs.{needs}
-use mathlib.Core.Path.{ap, _∙_}
+use mathlib.Core.Path.{_∙_}
 use mir.Syntax.{w64}
 use mir.ValLaws.{toZ-ofZ}
 use Rattle.exports.proofs.GivenLaws.{given-short, given-room, returned-short, answered-short, returned-room, answered-room}
