@@ -15,7 +15,7 @@ use Rattle.sim0mq.specs.Header.{Header}
 use Rattle.sim0mq.specs.Table.{row as rowOf}
 use Rattle.sim0mq.specs.Message.{noTable}
 use Rattle.sim0mq.proofs.Answers.{fine-eq, not-fine}
-use Rattle.fields.proofs.FieldCases.{width-positive}
+use Rattle.values.proofs.ValueCases.{width-positive}
 use Rattle.payload.specs.Parts.{payloadSteps}
 use Rattle.payload.specs.Kept.{keptOne, keptAll, rowsIn, keptOf}
 use Rattle.payload.proofs.PayloadCases.{Goes, field-goes}

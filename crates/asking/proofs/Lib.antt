@@ -1,11 +1,4 @@
 pub mod AskLaws
 pub mod PartLaws
 pub mod FindCases
-pub mod ScalarCases
-pub mod StandingLaws
-pub mod ReadCases
-pub mod NotNumbers
-pub mod ByteLaws
-pub mod BackLaws
-pub mod AloneLaws
 pub mod Promises

@@ -1,23 +1,10 @@
--- The promises hold since asking takes field k of a reading, and the value of a field turns on its code and its bytes alone.
-use Prim.Native.Nat.{ℕ, _+_, _-_}
-use mathlib.Core.Path.{_≡_, refl, ap, sym, _∙_, subst}
+-- The promises hold since asking takes field k of a reading.
+use mathlib.Core.Path.{_≡_, sym, _∙_}
 use native.Mathlib.Omega.{arith}
 use lib.ListN.{length, take, drop, length-take, length-drop}
-use Rattle.sim0mq.specs.Answer.{Answer, fine, _>>=_}
-use Rattle.sim0mq.specs.Field.{Field, after, field}
-use Rattle.sim0mq.specs.Allowed.{fieldBytes}
-use Rattle.sim0mq.proofs.Stands.{stands-self}
-use Rattle.sim0mq.proofs.FieldLaws.{fieldAt, after-at, field-complete}
-use Rattle.asking.specs.Scalars.{scalarOf, value}
-use Rattle.asking.specs.Promises.{Asking-agrees-with-reading, View-is-row-k, Not-a-number-exactly, ownBytes, Value-is-its-bytes, Value-gives-back-its-bytes}
-use Rattle.kinds.specs.declared.Scalar.the-variants.{NotNumber}
+use Rattle.asking.specs.Promises.{Asking-agrees-with-reading, View-is-row-k}
 use Rattle.asking.proofs.AskLaws.{asked-refused, asked-nth, nth-past, nth-past-only, nth-finds, nth-row}
-use Rattle.asking.proofs.AloneLaws.{value-alone}
-use Rattle.asking.proofs.BackLaws.{part-back, value-back}
-use Rattle.asking.proofs.NotNumbers.{nan-only, nan-always}
-use Rattle.asking.proofs.PartLaws.{asked-parts, asked-inside}
-use Rattle.asking.proofs.ReadCases.{read-as}
-use Rattle.asking.proofs.StandingLaws.{asked-standing}
+use Rattle.asking.proofs.PartLaws.{asked-inside}
 
 -- asking is reading, and then field k of what was read
 pub asking-agrees-with-reading : Asking-agrees-with-reading
@@ -34,32 +21,3 @@ view-is-row-k s k m f q a =
     let within = asked-inside s k f a in
     let l : length (take (f .size) (drop (f .first) s)) ≡ f .size = simp (length-take, length-drop) (omega arith) in
     record { numbers = nth-row (m .fields) k f (sym (asked-nth s k m q) ∙ a); bytes = l }
-
--- only the four codes of floats and doubles are put to the test
-pub not-a-number-exactly : Not-a-number-exactly
-not-a-number-exactly s f c = (
-  λ e. nan-only s f c (read-as s f (NotNumber c) e),
-  λ h. nan-always s f (h .1) ∙ ap (λ (k : ℕ). fine (NotNumber k)) (sym (h .0)),
-)
-
--- the field's parts are the same where they stand and by themselves
-pub value-is-its-bytes : Value-is-its-bytes
-unfolding after
-value-is-its-bytes s k f q =
-    let x = asked-parts s k f q in
-    let p = x .parts in
-    let l = fieldBytes p in
-    let end : f .first + f .size ≡ f .place + length l = ap after (x .says) ∙ after-at (f .place) p in
-    let long : f .first + f .size - f .place ≡ length l = omega arith in
-    let own : ownBytes s f ≡ l = ap (λ (n : ℕ). take n (drop (f .place) s)) long ∙ part-back l (x .there) in
-    let judged : field l 0 ≡ fine (fieldAt 0 p) = field-complete p (x .is) (stands-self l) in
-    let code : p .code ≡ f .code = sym (ap (λ (g : Field). g .code) (x .says)) in
-    let first : f .first ≡ f .place + (fieldAt 0 p) .first = ap (λ (g : Field). g .first) (x .says) ∙ omega arith in
-    rw (own, judged) (value-alone s l f (fieldAt 0 p) (asked-standing s k f q) (x .there) code refl first end)
-
--- the field's code says how its bytes were read, and each way of reading is undone by writing
-pub value-gives-back-its-bytes : Value-gives-back-its-bytes
-unfolding value
-value-gives-back-its-bytes s k f v bytes e q other =
-    let scalar : scalarOf s f ≡ fine v = subst (λ (a : Answer Field). (a >>= scalarOf s) ≡ fine v) q e in
-    value-back s bytes k f q v (read-as s f v scalar) other

@@ -1,4 +1,4 @@
--- Asking (01, "What reading returns" and refusals 16 and 17): the field k of a message that is read afresh, with no table.
+-- Asking (01, "What reading returns" and refusal 16): the field k of a message that is read afresh, with no table.
 use Prim.Native.Nat.{ℕ, zero, suc, _/_}
 use mathlib.Core.List.{List, [], _∷_}
 use lib.ListN.{getD, take, drop}

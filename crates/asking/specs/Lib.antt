@@ -1,4 +1,2 @@
 pub mod Asking
-pub mod Scalars
-pub mod Bytes
 pub mod Promises

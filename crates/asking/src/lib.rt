@@ -1,12 +1,9 @@
-// Asking: the field k of a message, read afresh; its scalar value, or a view of its value bytes.
+// Asking: the field k of a message, read afresh, and a view of its value bytes.
 ghost use mathlib.Core.Path.{_≡_};
 ghost use Prim.Native.Nat.{_≤_};
 ghost use lib.ListN.{length, getD};
 ghost use Rattle.fields.specs.Items.{fielded, seen};
 ghost use Rattle.asking.specs.Asking.{asked, viewOf, fieldIn};
-ghost use Rattle.asking.specs.Scalars.{value as valueOf, valued};
-use crate::scalars::Value;
-use crate::scalars::scalar_of;
 use fields::Field;
 use fields::Fielded;
 use header::Said;
@@ -17,8 +14,6 @@ use reading::opened;
 use sim0mq::Judged;
 use sim0mq::Refusal;
 use tables::width;
-
-pub mod scalars;
 
 // The field whose row this is.
 fn field_in(row: &[u16]) -> Field
@@ -74,16 +69,5 @@ pub fn view(message: &[u8], k: usize) -> &[u8]
             let end = first + f.size;
             &message[first..end]
         }
-    }
-}
-
-// The value of field k, where it is a scalar; else the refusal, which is asking's or 17.
-pub fn value(message: &[u8], k: usize) -> Value
-    ensures { λ r. ⌜ valued r ≡ valueOf (now (message .entry)) k ⌝ }
-{
-    let found = ask(message, k);
-    match found {
-        Fielded::Refused(r) => Value::Refused(r),
-        Fielded::Accepted(f) => scalar_of(message, f),
     }
 }

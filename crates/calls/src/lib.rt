@@ -1,18 +1,17 @@
 // A case that writes: its calls of the writer, one a line, and what they answer, as text.
 use crate::answers::NOTHING;
 use copies::BEFORE;
-use copies::ROOM;
 use lines::NONE;
+use lines::ROOM;
 use lines::find;
 use lines::part;
-use lines::scalars::Told;
-use lines::scalars::scalar;
 use lines::signed::long_of;
 use lines::signed::signed;
 use lines::spaced;
 use lines::starts;
-use lines::tokens;
 use pieces::put;
+use scalar_lines::Told;
+use scalar_lines::scalar;
 use writing::CountType;
 use writing::Writer;
 

@@ -6,7 +6,7 @@ use lib.Dec.{leb, eqb}
 use lib.Ieee.{binary32, binary64, toBits}
 use lib.ListN.{replicate}
 use Rattle.sim0mq.specs.Answer.{Answer, fine, refused}
-use Rattle.asking.specs.Bytes.{bitsOf}
+use Rattle.scalars.specs.Bytes.{bitsOf}
 use Rattle.kinds.specs.Kinds.{twos, floatOf, doubleOf, withFloat, withDouble}
 use Rattle.kinds.specs.declared.Mark.{Mark}
 use Rattle.kinds.specs.declared.Scalar.{Scalar}

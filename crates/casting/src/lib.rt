@@ -4,9 +4,8 @@ ghost use mathlib.Core.List.{_∷_};
 ghost use Prim.Native.Nat.{_<_};
 ghost use lib.Ieee.{binary32, binary64, toBits};
 ghost use lib.ListN.{getD};
-ghost use Rattle.asking.specs.Scalars.{valued};
+ghost use Rattle.scalars.specs.Scalars.{valued};
 ghost use Rattle.casting.specs.Casting.{withMark, withNone, scalarNumbers, valueNumbers, from8, from16, from32, scalarFrom};
-use asking::scalars::Value;
 use kinds::Mark;
 use kinds::Scalar;
 use kinds::double_of;
@@ -18,6 +17,7 @@ use kinds::i16_of;
 use kinds::i32_of;
 use kinds::i64_of;
 use puts::bits;
+use scalars::answer::Value;
 
 // The bits of a float; of a NaN, which asking never answers, the pattern with the sign clear and only the highest digit set.
 fn float_bits(x: f32) -> u64

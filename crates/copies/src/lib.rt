@@ -1,5 +1,6 @@
 // What blanking answers, as text: a line with the length or the refusal, then a line for each run of bytes of the copy that were cleared. The first
 // byte of the copy that is neither zero nor the message's own gets a line too, and so does the first past the copy that is not as it was before.
+use lines::ROOM;
 use lines::part;
 use pieces::number;
 use pieces::put;
@@ -8,9 +9,6 @@ use sim0mq::Judged;
 use sim0mq::Refusal;
 ghost use Prim.Native.Nat.{_≤_, max};
 ghost use lib.ListN.{length};
-
-// How many bytes an output has at most.
-pub const ROOM: usize = 33000;
 
 // Each byte of an output before anything is put into it.
 pub const BEFORE: u8 = 0xAA;

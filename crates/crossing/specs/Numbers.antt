@@ -1,22 +1,15 @@
 -- The numbers in which each answer crosses to C and Rust. The first is 0 where the call is granted, else the refusal's number (01, "Refusals and their
 -- places"); the second is the refusal's place, 0 where it is granted.
 use Prim.Native.Nat.{ℕ}
-use mathlib.Core.Bool.{cond, not}
-use mathlib.Core.List.{List, [], _∷_, _++_, flatMap}
-use lib.Dec.{eqb}
+use mathlib.Core.List.{List, [], _∷_, flatMap}
 use lib.ListN.{replicate}
 use Rattle.sim0mq.specs.Answer as S
 use Rattle.sim0mq.specs.Answer.{fine, refused}
 use Rattle.sim0mq.specs.Field.{Field}
-use Rattle.sim0mq.specs.Views.{judged}
 use Rattle.header.specs.declared.Frame.{Frame}
 use Rattle.reading.specs.declared.Reading.{Reading}
 use Rattle.reading.specs.declared.Reading.the-variants.{Accepted as Reading·Accepted, Refused as Reading·Refused}
 use Rattle.reading.specs.declared.Answer.{Answer}
-use Rattle.writing.specs.declared.CountType.{CountType}
-use Rattle.writing.specs.declared.CountType.the-variants.{Unstated, Stated}
-use Rattle.writing.specs.declared.Writer.{Writer}
-use Rattle.writing.specs.declared.Wrote.{Wrote}
 
 -- A frame's place and type code.
 abbrev pub frameNumbers : Frame → List ℕ
@@ -39,18 +32,3 @@ lengthNumbers (refused k p) = k ∷ p ∷ 0 ∷ []
 abbrev pub viewNumbers : S.Answer Field → List ℕ
 viewNumbers (fine f) = 0 ∷ 0 ∷ f .first ∷ f .size ∷ []
 viewNumbers (refused k p) = k ∷ p ∷ 0 ∷ 0 ∷ []
-
--- The writer's state, 4 numbers: written, declared, added, and 1 where it is closed; and the state of such numbers, which is closed by any but 0.
-abbrev pub stateNumbers : Writer → List ℕ
-stateNumbers w = w .written ∷ w .declared ∷ w .added ∷ cond (w .closed) 1 0 ∷ []
-
-abbrev pub writerOf : ℕ → ℕ → ℕ → ℕ → Writer
-writerOf written declared added closed = record { written = written; declared = declared; added = added; closed = not (eqb closed 0) }
-
--- A call of the writer, 7 numbers: number, place, bytes written so far, and the state that is handed back.
-abbrev pub wroteNumbers : Wrote → List ℕ
-wroteNumbers w = lengthNumbers (judged (w .said)) ++ stateNumbers (w .writer)
-
--- The type of the declared count: `kind`, where it is stated.
-unfoldable pub countType : ℕ → ℕ → CountType
-countType stated kind = cond (eqb stated 0) Unstated (Stated kind)

@@ -1,2 +1,72 @@
-// Answers as numbers, and back: what the calls for C and Rust hand over.
-pub mod numbers;
+// Answers of reading, asking and blanking as numbers: what the calls for C and Rust hand over.
+ghost use mathlib.Core.Path.{_≡_};
+ghost use mathlib.Core.List.{flatMap};
+ghost use Prim.Native.Nat.{_<_};
+ghost use lib.ListN.{getD};
+ghost use Rattle.sim0mq.specs.Views.{judged};
+ghost use Rattle.fields.specs.Items.{fielded};
+ghost use Rattle.crossing.specs.Numbers.{frameNumbers, saidNumbers, lengthNumbers, viewNumbers};
+use fields::Fielded;
+use header::Frame;
+use reading::Reading;
+use sim0mq::Judged;
+
+// The numbers of what reading answers.
+pub fn read_numbers(said: Reading, frames: [Frame; 8]) -> [u64; 21]
+    ensures numbers { λ r. ⌜ r ≡ saidNumbers said (flatMap frameNumbers frames) ⌝ }
+    ensures small { λ r. ⌜ getD r 0 0 < 4294967296 ⌝ }
+{
+    match said {
+        Reading::Refused(r) => {
+            let mut numbers = [0u64; 21];
+            numbers[0] = r.number as u64;
+            numbers[1] = r.place as u64;
+            numbers
+        }
+        Reading::Accepted(found) => [
+            0,
+            0,
+            found.length as u64,
+            found.fields as u64,
+            found.steps as u64,
+            frames[0].place as u64,
+            frames[0].code as u64,
+            frames[1].place as u64,
+            frames[1].code as u64,
+            frames[2].place as u64,
+            frames[2].code as u64,
+            frames[3].place as u64,
+            frames[3].code as u64,
+            frames[4].place as u64,
+            frames[4].code as u64,
+            frames[5].place as u64,
+            frames[5].code as u64,
+            frames[6].place as u64,
+            frames[6].code as u64,
+            frames[7].place as u64,
+            frames[7].code as u64,
+        ],
+    }
+}
+
+// The numbers of a length.
+pub fn length_numbers(said: Judged) -> [u64; 3]
+    ensures numbers { λ r. ⌜ r ≡ lengthNumbers (judged said) ⌝ }
+    ensures small { λ r. ⌜ getD r 0 0 < 4294967296 ⌝ }
+{
+    match said {
+        Judged::Refused(r) => [r.number as u64, r.place as u64, 0],
+        Judged::Accepted(n) => [0, 0, n as u64],
+    }
+}
+
+// The numbers of the view that asking finds.
+pub fn view_numbers(found: Fielded) -> [u64; 4]
+    ensures numbers { λ r. ⌜ r ≡ viewNumbers (fielded found) ⌝ }
+    ensures small { λ r. ⌜ getD r 0 0 < 4294967296 ⌝ }
+{
+    match found {
+        Fielded::Refused(r) => [r.number as u64, r.place as u64, 0, 0],
+        Fielded::Accepted(f) => [0, 0, f.first as u64, f.size as u64],
+    }
+}

@@ -7,18 +7,20 @@ use Rattle.sim0mq.specs.declared.Refusal.{Refusal}
 use Rattle.sim0mq.specs.declared.Judged.{Judged}
 use Rattle.sim0mq.specs.declared.Judged.the-variants.{Accepted, Refused}
 use Rattle.sim0mq.proofs.Answers.{not-fine, fine-eq}
-use Rattle.fields.specs.Items.{headed, fielded}
-use Rattle.fields.specs.declared.Headed.{Headed}
-use Rattle.fields.specs.declared.Headed.the-variants.{Accepted as Headed·Accepted, Refused as Headed·Refused}
+use Rattle.heads.specs.Heads.{headed}
+use Rattle.heads.specs.declared.Headed.{Headed}
+use Rattle.heads.specs.declared.Headed.the-variants.{Accepted as Headed·Accepted, Refused as Headed·Refused}
+use Rattle.fields.specs.Items.{fielded}
 use Rattle.fields.specs.declared.Fielded.{Fielded}
 use Rattle.fields.specs.declared.Fielded.the-variants.{Accepted as Fielded·Accepted, Refused as Fielded·Refused}
-use Rattle.asking.specs.Scalars.{valued}
-use Rattle.asking.specs.declared.scalars.Value.{Value}
-use Rattle.asking.specs.declared.scalars.Value.the-variants.{Is, Refused as Value·Refused}
+use Rattle.scalars.specs.Scalars.{valued}
+use Rattle.scalars.specs.declared.answer.Value.{Value}
+use Rattle.scalars.specs.declared.answer.Value.the-variants.{Is, Refused as Value·Refused}
 use Rattle.sim0mq.proofs.refuse.Reads as sim0mq-refuse
 use Rattle.payload.proofs.payload.Reads as payload
-use Rattle.fields.proofs.head.Reads as head
-use Rattle.fields.proofs.values.Reads as values
+use Rattle.heads.proofs.head.Reads as head
+use Rattle.values.proofs.size.Reads as size
+use Rattle.values.proofs.values.Reads as values
 use Rattle.fields.proofs.outline.Reads as outline
 use Rattle.payload.proofs.wide.Reads as kept-wide
 use Rattle.marks.proofs.mark.Reads as mark
@@ -43,7 +45,7 @@ use Rattle.reading.proofs.read.Reads as read
 use Rattle.reading.proofs.judge.Reads as judge
 use Rattle.asking.proofs.ask.Reads as ask
 use Rattle.asking.proofs.view.Reads as view
-use Rattle.asking.proofs.value.Reads as value
+use Rattle.scalars.proofs.value.Reads as value
 use Rattle.kinds.proofs.i8_of.Reads as i8-of
 use Rattle.kinds.proofs.i16_of.Reads as i16-of
 use Rattle.kinds.proofs.i32_of.Reads as i32-of
@@ -61,24 +63,25 @@ use Rattle.writing.proofs.Writer.close.Reads as close
 use Rattle.puts.proofs.bits.Reads as bits
 use Rattle.puts.proofs.put_big.Reads as put-big
 use Rattle.puts.proofs.put_number.Reads as put-number
-use Rattle.encoding.proofs.scalars.encode.Reads as encode
-use Rattle.crossing.proofs.numbers.read_numbers.Reads as read-numbers
-use Rattle.crossing.proofs.numbers.length_numbers.Reads as length-numbers
-use Rattle.crossing.proofs.numbers.view_numbers.Reads as view-numbers
-use Rattle.crossing.proofs.numbers.wrote_numbers.Reads as wrote-numbers
-use Rattle.crossing.proofs.numbers.writer_of.Reads as writer-of
-use Rattle.crossing.proofs.numbers.count_type.Reads as count-type
+use Rattle.encoding.proofs.encode.Reads as encode
+use Rattle.crossing.proofs.read_numbers.Reads as read-numbers
+use Rattle.crossing.proofs.length_numbers.Reads as length-numbers
+use Rattle.crossing.proofs.view_numbers.Reads as view-numbers
+use Rattle.writer_crossing.proofs.wrote_numbers.Reads as wrote-numbers
+use Rattle.writer_crossing.proofs.writer_of.Reads as writer-of
+use Rattle.writer_crossing.proofs.count_type.Reads as count-type
 use Rattle.casting.proofs.value_numbers.Reads as value-numbers
 use Rattle.casting.proofs.scalar_from.Reads as scalar-from
+use Rattle.giving.proofs.give.Reads as give
 use Rattle.exports.proofs.sim0mq_read.Reads as c-read
 use Rattle.exports.proofs.sim0mq_judge.Reads as c-judge
 use Rattle.exports.proofs.sim0mq_value.Reads as c-value
 use Rattle.exports.proofs.sim0mq_view.Reads as c-view
 use Rattle.exports.proofs.sim0mq_blank.Reads as c-blank
-use Rattle.exports.proofs.sim0mq_open.Reads as c-open
-use Rattle.exports.proofs.sim0mq_add.Reads as c-add
-use Rattle.exports.proofs.sim0mq_add_scalar.Reads as c-add-scalar
-use Rattle.exports.proofs.sim0mq_close.Reads as c-close
+use Rattle.writer_exports.proofs.sim0mq_open.Reads as c-open
+use Rattle.writer_exports.proofs.sim0mq_add.Reads as c-add
+use Rattle.writer_exports.proofs.sim0mq_add_scalar.Reads as c-add-scalar
+use Rattle.writer_exports.proofs.sim0mq_close.Reads as c-close
 use Rattle.pieces.proofs.put.Reads as put
 use Rattle.pieces.proofs.number.Reads as decimal
 use Rattle.listing.proofs.listing.Reads as listing
@@ -184,13 +187,18 @@ currency-taken-result = equated currency-taken.Post (λ κs z e. z) _ (λ κs a 
 pub display-taken-result : Determines display-taken.Post (λ κs z e. z)
 display-taken-result = equated display-taken.Post (λ κs z e. z) _ (λ κs a z e p. p)
 
--- The calls of crate fields.
+-- The call of crate heads.
 pub head-result : Determines head.Post (λ κs z e. z)
 head-result = determined head.Post (λ κs z e. z) (λ κs. headed) (λ κs. headed-apart) _ (λ κs a z e p. p)
+
+-- The calls of crate values.
+pub size-result : Determines size.Post (λ κs z e. z)
+size-result = determined size.Post (λ κs z e. z) (λ κs. judged) (λ κs. judged-apart) _ (λ κs a z e p. p)
 
 pub values-result : Determines values.Post (λ κs z e. z)
 values-result = determined values.Post (λ κs z e. z) (λ κs. judged) (λ κs. judged-apart) _ (λ κs a z e p. p)
 
+-- The call of crate fields.
 pub outline-result : Determines outline.Post (λ κs z e. z)
 outline-result = determined outline.Post (λ κs z e. z) (λ κs. fielded) (λ κs. fielded-apart) _ (λ κs a z e p. p)
 
@@ -235,9 +243,11 @@ ask-result = determined ask.Post (λ κs z e. z) (λ κs. fielded) (λ κs. fiel
 pub view-result : Determines view.Post (λ κs z e. now z)
 view-result = equated view.Post (λ κs z e. now z) _ (λ κs a z e p. p)
 
+-- The call of crate scalars.
 pub value-result : Determines value.Post (λ κs z e. z)
 value-result = determined value.Post (λ κs z e. z) (λ κs. valued) (λ κs. valued-apart) _ (λ κs a z e p. p)
 
+-- The calls of crate kinds.
 pub i8-of-result : Determines i8-of.Post (λ κs z e. z)
 i8-of-result = equated i8-of.Post (λ κs z e. z) _ (λ κs a z e p. p)
 
@@ -329,6 +339,7 @@ length-numbers-result = equated length-numbers.Post (λ κs z e. z) _ (λ κs a 
 pub view-numbers-result : Determines view-numbers.Post (λ κs z e. z)
 view-numbers-result = equated view-numbers.Post (λ κs z e. z) _ (λ κs a z e p. p .0)
 
+-- The calls of crate writer_crossing.
 pub wrote-numbers-result : Determines wrote-numbers.Post (λ κs z e. z)
 wrote-numbers-result = equated wrote-numbers.Post (λ κs z e. z) _ (λ κs a z e p. p .0)
 
@@ -337,6 +348,10 @@ writer-of-result = equated writer-of.Post (λ κs z e. z) _ (λ κs a z e p. p)
 
 pub count-type-result : Determines count-type.Post (λ κs z e. z)
 count-type-result = equated count-type.Post (λ κs z e. z) _ (λ κs a z e p. p)
+
+-- The call of crate giving.
+pub give-answer : Determines give.Post (λ κs z e. now (e .1 .0))
+give-answer = equated give.Post (λ κs z e. now (e .1 .0)) _ (λ κs a z e p. p)
 
 -- The calls of crate exports.
 pub c-read-result : Determines c-read.Post (λ κs z e. z)
@@ -375,6 +390,7 @@ c-blank-out = equated c-blank.Post (λ κs z e. now (e .1 .0)) _ (λ κs a z e p
 pub c-blank-answer : Determines c-blank.Post (λ κs z e. now (e .1 .1 .0))
 c-blank-answer = equated c-blank.Post (λ κs z e. now (e .1 .1 .0)) _ (λ κs a z e p. p .1 .1)
 
+-- The calls of crate writer_exports.
 pub c-open-result : Determines c-open.Post (λ κs z e. z)
 c-open-result = equated c-open.Post (λ κs z e. z) _ (λ κs a z e p. p .0)
 

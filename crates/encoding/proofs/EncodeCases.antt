@@ -15,11 +15,11 @@ use mir.Val.{Fits, boolByte}
 use Rattle.sim0mq.specs.Answer.{fine, refused}
 use Rattle.sim0mq.specs.Mark.{perRow, Kind, plain, money, moneyPer, unknown, kindOf, currencyTaken, displayTaken}
 use Rattle.marks.proofs.MarkCases.{kind-plain, kind-between, kind-money, kind-per, kind-above}
-use Rattle.asking.specs.Bytes.{bigBytes, bitsOf, scalarBytes, bytesOfMark, markBytes}
+use Rattle.scalars.specs.Bytes.{bigBytes, bitsOf, scalarBytes, bytesOfMark, markBytes}
 use Rattle.kinds.specs.declared.Mark.{Mark}
 use Rattle.kinds.specs.declared.Scalar.{Scalar}
 use Rattle.kinds.specs.declared.Scalar.the-variants.{Boolean}
-use Rattle.encoding.specs.declared.scalars.Encoded.{Encoded}
+use Rattle.encoding.specs.declared.Encoded.{Encoded}
 use Rattle.encoding.specs.Scalars.{codeOf, scalarText, markTaken, writable, scalarGiven}
 use Rattle.sim0mq.specs.Table.{placed}
 use Rattle.buffers.specs.Placing.{putIn}

@@ -4,11 +4,11 @@ use mathlib.Core.List.{List, _∷_, _++_}
 use lib.ListN.{length, replicate}
 use Rattle.sim0mq.specs.Answer.{Answer, fine, refused, _>>_, guard}
 use Rattle.sim0mq.specs.Mark.{kindOf}
-use Rattle.asking.specs.Bytes.{bigBytes, bytesOfMark}
+use Rattle.scalars.specs.Bytes.{bigBytes, bytesOfMark}
 use Rattle.kinds.specs.declared.Mark.{Mark}
 use Rattle.encoding.specs.Scalars.{markTaken}
 use Rattle.sim0mq.specs.Table.{placed}
-use Rattle.encoding.specs.declared.scalars.Encoded.{Encoded}
+use Rattle.encoding.specs.declared.Encoded.{Encoded}
 
 -- A field in 13 bytes, zero after it; and no field.
 abbrev pub encodedAs : Answer (List ℕ) → Encoded

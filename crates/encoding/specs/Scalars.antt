@@ -6,7 +6,7 @@ use lib.Dec.{eqb}
 use lib.Ieee.{isNan}
 use Rattle.sim0mq.specs.Answer.{Answer, fine, _>>_, guard}
 use Rattle.sim0mq.specs.Mark.{Kind, plain, money, moneyPer, unknown, kindOf, currencyTaken, displayTaken}
-use Rattle.asking.specs.Bytes.{scalarBytes, markBytes}
+use Rattle.scalars.specs.Bytes.{scalarBytes, markBytes}
 use Rattle.kinds.specs.declared.Mark.{Mark}
 use Rattle.kinds.specs.declared.Scalar.{Scalar}
 use Rattle.kinds.specs.declared.Scalar.the-variants.{Byte, Short, Int, Long, Float, Double, Boolean, Char8, Char16, FloatUnit, DoubleUnit, NotNumber}

@@ -1,39 +1,29 @@
-// The library's calls for C and Rust: a slice crosses as a pointer and a length, and an answer as numbers in a slice that the caller lends. Each
-// returns 0 where it is granted, the refusal's number where it is refused, and 255 where the lent answer is too short; then nothing is written.
+// The library's calls for C and Rust that read, ask and blank: a slice crosses as a pointer and a length, and an answer as numbers in a slice that the
+// caller lends. Each returns 0 where it is granted, the refusal's number where it is refused, and 255 where the lent answer is too short; then nothing is
+// written.
 ghost use mathlib.Core.Path.{_≡_};
-ghost use lib.ListN.{length};
+ghost use lib.ListN.{length, getD};
 ghost use Rattle.sim0mq.specs.Blank.{blanking, outputAfter};
 ghost use Rattle.sim0mq.specs.Message.{noTable, table as tableOf, reading as readingOf, tableAfter};
 ghost use Rattle.reading.specs.Answers.{answered};
 ghost use Rattle.asking.specs.Asking.{asked};
-ghost use Rattle.asking.specs.Scalars.{value as valueOf};
+ghost use Rattle.scalars.specs.Scalars.{value as valueOf};
 ghost use Rattle.blanking.specs.Blanking.{lengthOf};
-ghost use Rattle.writing.specs.Writing.{asksFor, encoded, scalar};
-ghost use Rattle.crossing.specs.Numbers.{readNumbers, lengthNumbers, viewNumbers, writerOf, countType};
-ghost use Rattle.casting.specs.Casting.{valueNumbers, markFrom, scalarFrom};
-ghost use Rattle.exports.specs.Given.{given, returned, answerAfter};
-ghost use Rattle.exports.specs.Calls.{openNumbers, openedIn, addNumbers, addedIn, closeNumbers};
-use crate::giving::give;
-use crate::giving::give_read;
-use crate::giving::give_wrote;
+ghost use Rattle.crossing.specs.Numbers.{readNumbers, lengthNumbers, viewNumbers};
+ghost use Rattle.casting.specs.Casting.{valueNumbers};
+ghost use Rattle.giving.specs.Given.{given, returned, answerAfter};
 use asking::ask;
-use asking::value;
 use blanking::blank;
-use casting::scalar_from;
 use casting::value_numbers;
-use crossing::numbers::count_type;
-use crossing::numbers::length_numbers;
-use crossing::numbers::view_numbers;
-use crossing::numbers::writer_of;
-use kinds::Mark;
+use crossing::length_numbers;
+use crossing::read_numbers;
+use crossing::view_numbers;
+use giving::TOO_SHORT;
+use giving::give;
+use reading::Answer;
 use reading::judge;
 use reading::read;
-use writing::Writer;
-
-mod giving;
-
-// What the caller gets where the lent answer is too short.
-const TOO_SHORT: u32 = 255;
+use scalars::value;
 
 // How many numbers each call answers.
 const READ: usize = 21;
@@ -46,13 +36,17 @@ const VIEW: usize = 4;
 
 const BLANK: usize = 3;
 
-const OPEN: usize = 7;
-
-const ADD: usize = 7;
-
-const ADD_SCALAR: usize = 7;
-
-const CLOSE: usize = 7;
+// Stores the numbers of what reading answers in `lent`, and returns the first of them.
+fn give_read(a: Answer, lent: &mut [u64]) -> u32
+    ensures first { λ r. ⌜ r ≡ getD (readNumbers a) 0 0 ⌝ }
+    ensures given { λ _. ⌜ now (lent .exit) ≡ answerAfter 21 (now (lent .entry)) (readNumbers a) ⌝ }
+{
+    let said = a.said;
+    let frames = a.frames;
+    let numbers = read_numbers(said, frames);
+    give(&numbers, lent);
+    numbers[0] as u32
+}
 
 // Reads the message, and stores its rows in the table once it is accepted; answers the 21 numbers of `readNumbers`.
 #[no_mangle]
@@ -91,7 +85,8 @@ pub extern "C" fn sim0mq_value(message: &[u8], k: u64, answer: &mut [u64]) -> u3
         return TOO_SHORT;
     }
     let numbers = value_numbers(value(message, k as usize));
-    give(&numbers, answer)
+    give(&numbers, answer);
+    numbers[0] as u32
 }
 
 // The place of field k's first value byte, and how many there are, in the 4 numbers of `viewNumbers`.
@@ -104,7 +99,8 @@ pub extern "C" fn sim0mq_view(message: &[u8], k: u64, answer: &mut [u64]) -> u32
         return TOO_SHORT;
     }
     let numbers = view_numbers(ask(message, k as usize));
-    give(&numbers, answer)
+    give(&numbers, answer);
+    numbers[0] as u32
 }
 
 // Copies the message to `out`, with zero in every payload value byte; answers its length, in the 3 numbers of `lengthNumbers`.
@@ -118,109 +114,6 @@ pub extern "C" fn sim0mq_blank(message: &[u8], out: &mut [u8], answer: &mut [u64
         return TOO_SHORT;
     }
     let numbers = length_numbers(blank(message, out));
-    give(&numbers, answer)
-}
-
-// Opens a message in `out`, with the type `kind` of its count where `stated` is not 0; answers the bytes written so far and the writer's state, in the
-// 7 numbers of `wroteNumbers`.
-#[no_mangle]
-pub extern "C" fn sim0mq_open(
-    ids: &[u8],
-    number: i64,
-    status: u8,
-    fields: u64,
-    stated: u8,
-    kind: u8,
-    out: &mut [u8],
-    answer: &mut [u64],
-) -> u32
-    ensures returned { λ r. ⌜ r ≡ returned 7 (now (answer .entry)) (openNumbers (asksFor (now (ids .entry)) number status fields (countType stated kind)) (length (now (out .entry)))) ⌝ }
-    ensures written { λ _. ⌜ now (out .exit) ≡ given 7 (now (answer .entry)) (openedIn (asksFor (now (ids .entry)) number status fields (countType stated kind)) (now (out .entry))) (now (out .entry)) ⌝ }
-    ensures answered { λ _. ⌜ now (answer .exit) ≡ answerAfter 7 (now (answer .entry)) (openNumbers (asksFor (now (ids .entry)) number status fields (countType stated kind)) (length (now (out .entry)))) ⌝ }
-{
-    if answer.len() < OPEN {
-        return TOO_SHORT;
-    }
-    let w = Writer::open(
-        ids,
-        number,
-        status,
-        fields as usize,
-        count_type(stated, kind),
-        out,
-    );
-    give_wrote(w, answer)
-}
-
-// Adds an encoded field to the state of these numbers; answers as opening does.
-#[no_mangle]
-pub extern "C" fn sim0mq_add(
-    written: u64,
-    declared: u64,
-    added: u64,
-    closed: u8,
-    field: &[u8],
-    out: &mut [u8],
-    answer: &mut [u64],
-) -> u32
-    ensures returned { λ r. ⌜ r ≡ returned 7 (now (answer .entry)) (addNumbers (writerOf written declared added closed) (length (now (out .entry))) (encoded (now (field .entry)))) ⌝ }
-    ensures written { λ _. ⌜ now (out .exit) ≡ given 7 (now (answer .entry)) (addedIn (writerOf written declared added closed) (now (out .entry)) (encoded (now (field .entry)))) (now (out .entry)) ⌝ }
-    ensures answered { λ _. ⌜ now (answer .exit) ≡ answerAfter 7 (now (answer .entry)) (addNumbers (writerOf written declared added closed) (length (now (out .entry))) (encoded (now (field .entry)))) ⌝ }
-{
-    if answer.len() < ADD {
-        return TOO_SHORT;
-    }
-    let w = writer_of(written, declared, added, closed).add(field, out);
-    give_wrote(w, answer)
-}
-
-// Adds a scalar of this kind, these bits and this mark to the state of these numbers; answers as opening does.
-#[no_mangle]
-pub extern "C" fn sim0mq_add_scalar(
-    written: u64,
-    declared: u64,
-    added: u64,
-    closed: u8,
-    kind: u8,
-    bits: u64,
-    unit: u8,
-    currency: u16,
-    display: u8,
-    out: &mut [u8],
-    answer: &mut [u64],
-) -> u32
-    ensures returned { λ r. ⌜ r ≡ returned 7 (now (answer .entry)) (addNumbers (writerOf written declared added closed) (length (now (out .entry))) (scalar (scalarFrom kind bits (markFrom unit currency display)))) ⌝ }
-    ensures written { λ _. ⌜ now (out .exit) ≡ given 7 (now (answer .entry)) (addedIn (writerOf written declared added closed) (now (out .entry)) (scalar (scalarFrom kind bits (markFrom unit currency display)))) (now (out .entry)) ⌝ }
-    ensures answered { λ _. ⌜ now (answer .exit) ≡ answerAfter 7 (now (answer .entry)) (addNumbers (writerOf written declared added closed) (length (now (out .entry))) (scalar (scalarFrom kind bits (markFrom unit currency display)))) ⌝ }
-{
-    if answer.len() < ADD_SCALAR {
-        return TOO_SHORT;
-    }
-    let mark = Mark {
-        unit,
-        currency,
-        display,
-    };
-    let value = scalar_from(kind, bits, mark);
-    let w = writer_of(written, declared, added, closed).add_scalar(value, out);
-    give_wrote(w, answer)
-}
-
-// Closes the message of the state of these numbers; answers as opening does.
-#[no_mangle]
-pub extern "C" fn sim0mq_close(
-    written: u64,
-    declared: u64,
-    added: u64,
-    closed: u8,
-    answer: &mut [u64],
-) -> u32
-    ensures returned { λ r. ⌜ r ≡ returned 7 (now (answer .entry)) (closeNumbers (writerOf written declared added closed)) ⌝ }
-    ensures answered { λ _. ⌜ now (answer .exit) ≡ answerAfter 7 (now (answer .entry)) (closeNumbers (writerOf written declared added closed)) ⌝ }
-{
-    if answer.len() < CLOSE {
-        return TOO_SHORT;
-    }
-    let w = writer_of(written, declared, added, closed).close();
-    give_wrote(w, answer)
+    give(&numbers, answer);
+    numbers[0] as u32
 }

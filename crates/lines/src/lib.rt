@@ -1,10 +1,11 @@
-// What a line of a case file says: its words and numbers, the bytes that it gives, the scalar that it tells.
+// The words and the numbers of a line of a case file.
 ghost use Prim.Native.Nat.{_≤_, max};
 ghost use lib.ListN.{length};
 
-pub mod scalars;
 pub mod signed;
-pub mod tokens;
+
+// How many bytes an output that a line asks for has at most.
+pub const ROOM: usize = 33000;
 
 // Stands for no number, and for one that is too large.
 pub const NONE: usize = usize::MAX;

@@ -19,10 +19,10 @@ use Rattle.sim0mq.proofs.Refusals.{Held, payload-placed}
 use Rattle.sim0mq.specs.Demand1.{judgingNumbers}
 use Rattle.sim0mq.proofs.MarkLaws.{mark-sound}
 use Rattle.sim0mq.proofs.FieldLaws.{count-sound}
-use Rattle.fields.specs.Items.{sizeOf, sizeAt, booleansEnd, valuesEnd}
+use Rattle.values.specs.Values.{sizeOf, sizeAt, booleansEnd, valuesEnd}
 use Rattle.payload.specs.Parts.{stepsFrom, partSteps, payloadSteps}
 use Rattle.payload.specs.Kept.{Small}
-use Rattle.fields.proofs.FieldCases.{size-goes}
+use Rattle.values.proofs.ValueCases.{size-goes}
 
 -- how far each item goes
 mark-long : {l : List ℕ} → IsMark l → 2 ≤ length l

@@ -11,14 +11,14 @@ ghost use Rattle.numbers.specs.Numbers.{Below};
 ghost use Rattle.fields.specs.Items.{seen};
 ghost use Rattle.payload.specs.Parts.{partSteps, payloadSteps};
 ghost use Rattle.payload.specs.Kept.{Small, front, keptOne, keptAll, rowsIn, keptOf};
-use fields::Asked;
 use fields::Field;
-use fields::Headed;
-use fields::head;
-use fields::values;
+use heads::Asked;
+use heads::Headed;
+use heads::head;
 use marks::mark;
 use sim0mq::Judged;
 use sim0mq::Refusal;
+use values::values;
 
 // The most bytes that a message has.
 pub const LIMIT: usize = 32768;

@@ -9,7 +9,7 @@ use borrow.Author.Tests.{leb-false}
 use mir.Syntax.{Width}
 use mir.Val.{SFits, toZ, ofZ, hbits}
 use mir.ValLaws.{toZ-ofZ}
-use Rattle.asking.specs.Bytes.{bitsOf}
+use Rattle.scalars.specs.Bytes.{bitsOf}
 use Rattle.kinds.proofs.Signed.{down, widened}
 use Rattle.puts.specs.Signed.{bitsUpTo}
 

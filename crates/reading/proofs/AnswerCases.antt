@@ -21,7 +21,7 @@ use Rattle.sim0mq.specs.Demand2.{cutFrames}
 use Rattle.sim0mq.proofs.Answers.{guarded, bind-fine, fine-eq, not-fine}
 use Rattle.sim0mq.proofs.HeaderLaws.{header-sound}
 use Rattle.sim0mq.proofs.Refusals.{header-within}
-use Rattle.fields.proofs.FieldCases.{room-test}
+use Rattle.values.proofs.ValueCases.{room-test}
 use Rattle.payload.specs.Parts.{payloadSteps}
 use Rattle.payload.specs.Kept.{keptOf}
 use Rattle.payload.proofs.PayloadCases.{at-stopped, at-taken}

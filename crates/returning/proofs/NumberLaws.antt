@@ -14,7 +14,7 @@ use Rattle.sim0mq.specs.Codes.{codeKnown, countsOf, markingOf, widthOf, boolean
 use Rattle.sim0mq.specs.Allowed.{numberAfter, number, Each, none, IsMark, FieldParts, valuesAsked, marksAsked, IsField}
 use Rattle.sim0mq.proofs.Stands.{Stands, big-number}
 use Rattle.kinds.specs.Kinds.{twos}
-use Rattle.asking.specs.Bytes.{bigBytes, bitsOf}
+use Rattle.scalars.specs.Bytes.{bigBytes, bitsOf}
 use Rattle.returning.specs.Promises.{InWidth}
 use Rattle.puts.proofs.PlaceLaws.{big-length}
 

@@ -16,15 +16,16 @@ use Rattle.sim0mq.specs.Demand2.{cutFrames}
 use Rattle.sim0mq.proofs.Answers.{not-fine, fine-eq, guarded}
 use Rattle.sim0mq.proofs.Stands.{Stands, stands-to, stands-head, stands-tail, stands-left, stands-right, stands-self, big-number}
 use Rattle.sim0mq.proofs.MessageLaws.{cutOf, message-complete}
-use Rattle.asking.specs.Bytes.{bigBytes, bitsOf}
+use Rattle.scalars.specs.Bytes.{bigBytes, bitsOf}
 use Rattle.asking.specs.Asking.{nth}
 use Rattle.kinds.specs.Kinds.{twos}
-use Rattle.asking.specs.Scalars.{value}
-use Rattle.asking.specs.Promises.{ownBytes, valueAlone}
+use Rattle.scalars.specs.Scalars.{value}
+use Rattle.scalars.specs.Promises.{ownBytes, valueAlone}
 use Rattle.kinds.specs.declared.Scalar.{Scalar}
 use Rattle.asking.proofs.AskLaws.{asked-nth}
-use Rattle.asking.proofs.BackLaws.{part-back}
-use Rattle.asking.proofs.Promises.{asking-agrees-with-reading, value-is-its-bytes}
+use Rattle.scalars.proofs.BackLaws.{part-back}
+use Rattle.asking.proofs.Promises.{asking-agrees-with-reading}
+use Rattle.scalars.proofs.Promises.{value-is-its-bytes}
 use Rattle.encoding.specs.Scalars.{scalarText, writable, scalarGiven}
 use Rattle.puts.specs.Placing.{numberText}
 use Rattle.opening.specs.Opening.{headerWith}

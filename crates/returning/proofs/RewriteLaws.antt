@@ -15,8 +15,8 @@ use Rattle.sim0mq.specs.Demand2.{cutFrames}
 use Rattle.sim0mq.proofs.Stands.{Stands, stands-to, stands-left, stands-right, stands-self}
 use Rattle.sim0mq.proofs.PayloadLaws.{fields-many}
 use Rattle.sim0mq.proofs.MessageLaws.{cutOf, message-sound}
-use Rattle.asking.specs.Promises.{ownBytes}
-use Rattle.asking.proofs.BackLaws.{part-back}
+use Rattle.scalars.specs.Promises.{ownBytes}
+use Rattle.scalars.proofs.BackLaws.{part-back}
 use Rattle.sim0mq.specs.Table.{placed}
 use Rattle.opening.specs.Opening.{fitting, bufferAfter}
 use Rattle.writing.specs.Writing.{Opening, headerText, opening, afterOpening, Given, encoded, fieldGiven, takes, adding, afterAdding, closing}

@@ -20,9 +20,9 @@ use Rattle.sim0mq.proofs.Stands.{Stands, stands-self, stands-head, stands-tail,
 use Rattle.sim0mq.proofs.HeaderLaws.{values-there}
 use Rattle.sim0mq.proofs.FieldLaws.{fieldAt, field-complete}
 use Rattle.kinds.specs.Kinds.{twos, floatOf, doubleOf, withFloat, withDouble}
-use Rattle.asking.specs.Scalars.{markOf, markAt, scalarOf}
-use Rattle.asking.specs.Bytes.{bigBytes, bitsOf, scalarBytes, bytesOfMark, markBytes}
-use Rattle.asking.specs.Promises.{valueAlone}
+use Rattle.scalars.specs.Scalars.{markOf, markAt, scalarOf}
+use Rattle.scalars.specs.Bytes.{bigBytes, bitsOf, scalarBytes, bytesOfMark, markBytes}
+use Rattle.scalars.specs.Promises.{valueAlone}
 use Rattle.kinds.specs.declared.Mark.{Mark}
 use Rattle.kinds.specs.declared.Scalar.{Scalar}
 use Rattle.kinds.specs.declared.Scalar.the-variants.{Byte, Short, Int, Long, Float, Double, Boolean, Char8, Char16, FloatUnit, DoubleUnit, NotNumber}

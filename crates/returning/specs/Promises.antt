@@ -14,9 +14,9 @@ use Rattle.sim0mq.specs.Codes.{widthOf}
 use Rattle.sim0mq.specs.Field.{Field}
 use Rattle.sim0mq.specs.Header.{Frame}
 use Rattle.sim0mq.specs.Message.{noTable, Reading, reading}
-use Rattle.asking.specs.Promises.{ownBytes}
+use Rattle.scalars.specs.Promises.{ownBytes}
 use Rattle.kinds.specs.Kinds.{twos}
-use Rattle.asking.specs.Scalars.{value}
+use Rattle.scalars.specs.Scalars.{value}
 use Rattle.kinds.specs.declared.Scalar.{Scalar}
 use Rattle.kinds.specs.declared.Scalar.the-variants.{Byte, Short, Int, Long, Float, Double, Boolean, Char8, Char16, FloatUnit, DoubleUnit, NotNumber}
 use Rattle.opening.specs.Opening.{bufferAfter}

@@ -1,11 +1,10 @@
 // What has been run of a case file, what each line of a case adds to it, and how a case ends, given what it was answered with.
-use copies::ROOM;
 use libc::STDOUT_FILENO;
+use lines::ROOM;
 use lines::find;
 use lines::last;
 use lines::part;
 use lines::starts;
-use lines::tokens;
 
 // How many numbers a table has at most, and has where a case does not say.
 const NUMBERS: usize = 1280;

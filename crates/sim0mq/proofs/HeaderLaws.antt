@@ -291,40 +291,68 @@ header-joined s x h n is magic each v says declares =
     subst (λ (y : Header). FoundHeader s y) (sym (header-eq h n v declares) ∙ fine-eq says)
     (record { parts = h; is = is; there = stands-join frame0 (flatMap fieldBytes (headerFrames h)) magic frames; says = refl })
 
+-- a judge that passed four ids went on with the parts of four ids, each where the one before ends
+ids-sound : {B : Type 0} (s : List ℕ) (at : ℕ) (go : Field → Field → Field → Field → Answer B) {v : B}
+    → (frame s idCodes at
+    >>= (λ (a : Field). frame s idCodes (after a)
+    >>= (λ (b : Field). frame s idCodes (after b) >>= (λ (c : Field). frame s idCodes (after c) >>= go a b c))))
+    ≡ fine v
+    → (a : FieldParts) × (b : FieldParts) × (c : FieldParts) × (d : FieldParts)
+    × (IsFrame idCodes a × IsFrame idCodes b × IsFrame idCodes c × IsFrame idCodes d)
+    × (Stands s at (fieldBytes a) × Stands s (endOf at (a ∷ [])) (fieldBytes b) × Stands s (endOf at (a ∷ b ∷ [])) (fieldBytes c)
+    × Stands s (endOf at (a ∷ b ∷ c ∷ [])) (fieldBytes d))
+    × (go (fieldAt at a) (fieldAt (endOf at (a ∷ [])) b) (fieldAt (endOf at (a ∷ b ∷ [])) c) (fieldAt (endOf at (a ∷ b ∷ c ∷ [])) d) ≡ fine v)
+unfolding endOf
+ids-sound s at go q =
+    let a = frame-sound s idCodes at _ q in
+    let p = after (fieldAt at (a .0)) in
+    let b = frame-sound s idCodes p _ (a .3) in
+    let r = after (fieldAt p (b .0)) in
+    let c = frame-sound s idCodes r _ (b .3) in
+    let d = frame-sound s idCodes (after (fieldAt r (c .0))) _ (c .3) in
+    (a .0, b .0, c .0, d .0, (a .1, b .1, c .1, d .1), (a .2, b .2, c .2, d .2), d .3)
+
+-- one that passed number, status and count went on with theirs
+numbers-sound : {B : Type 0} (s : List ℕ) (at : ℕ) (go : Field → Field → Field → Answer B) {v : B}
+    → (frame s numberCodes at >>= (λ (e : Field). status s (after e) >>= (λ (f : Field). declared s (after f) >>= go e f))) ≡ fine v
+    → (e : FieldParts) × (f : FieldParts) × (g : FieldParts) × (IsFrame numberCodes e × IsFrame statusCodes f × IsFrame countCodes g)
+    × (Stands s at (fieldBytes e) × Stands s (endOf at (e ∷ [])) (fieldBytes f) × Stands s (endOf at (e ∷ f ∷ [])) (fieldBytes g))
+    × ((statusTaken (getD (f .values) 0 0) ≡ true) × (notNegative (getD (g .values) 0 0) ≡ true) × (fieldsTaken (number (g .values)) ≡ true))
+    × (go (fieldAt at e) (fieldAt (endOf at (e ∷ [])) f) (fieldAt (endOf at (e ∷ f ∷ [])) g) ≡ fine v)
+unfolding endOf
+numbers-sound s at go q =
+    let e = frame-sound s numberCodes at _ q in
+    let p = after (fieldAt at (e .0)) in
+    let f = status-sound s p _ (e .3) in
+    let g = declared-sound s (after (fieldAt p (f .0))) _ (f .3) in
+    (e .0, f .0, g .0, (e .1, f .1, g .1), (e .2, f .2, g .2), (f .4, g .4, g .5), g .3)
+
 pub header-sound : (s : List ℕ) (x : Header) → header s ≡ fine x → FoundHeader s x
 unfolding header endOf framesOf
 header-sound s x q =
     let m = magic-sound s _ q in
-    let a = frame-sound s idCodes 10 _ (m .1) in
-    let p2 = after (fieldAt 10 (a .0)) in
-    let b = frame-sound s idCodes p2 _ (a .3) in
-    let p3 = after (fieldAt p2 (b .0)) in
-    let c = frame-sound s idCodes p3 _ (b .3) in
-    let p4 = after (fieldAt p3 (c .0)) in
-    let d = frame-sound s idCodes p4 _ (c .3) in
-    let p5 = after (fieldAt p4 (d .0)) in
-    let e = frame-sound s numberCodes p5 _ (d .3) in
-    let p6 = after (fieldAt p5 (e .0)) in
-    let f = status-sound s p6 _ (e .3) in
-    let p7 = after (fieldAt p6 (f .0)) in
-    let g = declared-sound s p7 _ (f .3) in
-    let y = fieldAt p7 (g .0) in
+    let i = ids-sound s 10 _ (m .1) in
+    let p = endOf 10 (i .0 ∷ i .1 ∷ i .2 ∷ i .3 ∷ []) in
+    let n = numbers-sound s p _ (i .6) in
+    let g = n .2 in
+    let y = fieldAt (endOf p (n .0 ∷ n .1 ∷ [])) g in
     let h : HeaderParts
-    = record { run = a .0; sender = b .0; receiver = c .0; kind = d .0; message = e .0; status = f .0; count = g .0 } in
-    let is : IsHeader (number (g .0 .values)) h
+    = record { run = i .0; sender = i .1; receiver = i .2; kind = i .3; message = n .0; status = n .1; count = g } in
+    let is : IsHeader (number (g .values)) h
     =
     record {
-      isRun = a .1;
-      isSender = b .1;
-      isReceiver = c .1;
-      isKind = d .1;
-      isNumber = e .1;
-      isStatus = f .1;
-      isCount = g .1;
-      known = f .4;
-      sign = g .4;
-      declares = refl;
-      taken = g .5;
+      isRun = i .4 .0;
+      isSender = i .4 .1;
+      isReceiver = i .4 .2;
+      isKind = i .4 .3;
+      isNumber = n .3 .0;
+      isStatus = n .3 .1;
+      isCount = n .3 .2;
+      known = n .5 .0;
+      sign = n .5 .1;
+      declares = refl {a = number (g .values)};
+      taken = n .5 .2;
     } in
-    header-joined s x h (number (g .0 .values)) is (m .0) (a .2, (b .2, (c .2, (d .2, (e .2, (f .2, (g .2, tt)))))))
-    (big s (y .first) (y .size)) (g .3) (big-number (g .0 .values) (values-there (g .0) (g .2)))
+    header-joined s x h (number (g .values)) is (m .0)
+    (i .5 .0, (i .5 .1, (i .5 .2, (i .5 .3, (n .4 .0, (n .4 .1, (n .4 .2, tt)))))))
+    (big s (y .first) (y .size)) (n .6) (big-number {at = y .first} (g .values) (values-there g (n .4 .2)))

@@ -1,16 +1,16 @@
 // Whether writing gives a message back: opened with the message's own ids, number, status and count, its fields added in turn, and closed.
-use asking::scalars::Value;
 use copies::BEFORE;
-use copies::ROOM;
 use copies::touched;
 use fields::Fielded;
 use header::Frame;
 use kinds::Scalar;
+use lines::ROOM;
 use lines::part;
 use lines::signed::long_of;
 use numbers::number;
 use pieces::put;
 use reading::Reading;
+use scalars::answer::Value;
 use sim0mq::Judged;
 use writing::CountType;
 use writing::Writer;
@@ -140,7 +140,7 @@ fn add(message: &[u8], k: usize, writer: Writer, by_scalars: bool, out: &mut [u8
     if !by_scalars {
         return add_encoded(message, k, writer, out);
     }
-    match asking::value(message, k) {
+    match scalars::value(message, k) {
         Value::Refused(_) => add_encoded(message, k, writer, out),
         Value::Is(scalar) => match scalar {
             Scalar::NotNumber(_) => add_encoded(message, k, writer, out),

@@ -1,15 +1,15 @@
 // What asking answers, as text: a line with the value of a field or the refusal, then a line with the bytes of the field's view.
-use asking::scalars::Value;
 use kinds::Mark;
 use kinds::Scalar;
 use numbers::wide;
 use pieces::number;
 use pieces::put;
 use reading::Reading;
+use scalars::answer::Value;
 
 // The length of what asking `message` for field k answers, put at the front of `out`.
 pub fn answer(message: &[u8], k: usize, out: &mut [u8]) -> usize {
-    let at = value(asking::value(message, k), out);
+    let at = value(scalars::value(message, k), out);
     view(asking::view(message, k), out, at)
 }
 

@@ -62,6 +62,11 @@ fn all(text: &[u8]) -> Run {
     run
 }
 
+// Room for the text of a case file.
+fn room() -> [u8; 524288] {
+    [0u8; 524288]
+}
+
 // Runs the cases of the file cases.txt.
 fn main() {
     let fd = os::open_read(b"cases.txt");
@@ -69,7 +74,7 @@ fn main() {
         os::fail(b"cases.txt");
         return;
     }
-    let mut text = [0u8; 524288];
+    let mut text = room();
     let n = io::read_full(fd, &mut text);
     libc::close(fd);
     if n == text.len() {

@@ -18,7 +18,7 @@ use Rattle.sim0mq.specs.Table.{placed}
 use Rattle.opening.specs.Opening.{fitting, bufferAfter}
 use Rattle.writing.specs.Writing.{Given, encoded, scalar, fieldGiven, takes, adding, closing, afterAdding}
 use Rattle.encoding.specs.Encoded.{encodedAs}
-use Rattle.encoding.specs.declared.scalars.Encoded.{Encoded}
+use Rattle.encoding.specs.declared.Encoded.{Encoded}
 use Rattle.writing.specs.declared.Writer.{Writer}
 use Rattle.writing.specs.declared.Wrote.{Wrote}
 use Rattle.buffers.proofs.PlaceLaws.{front-stands}

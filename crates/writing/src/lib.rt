@@ -6,7 +6,7 @@ ghost use Rattle.sim0mq.specs.Answer.{refused as refusal};
 ghost use Rattle.opening.specs.Opening.{fitting, bufferAfter};
 ghost use Rattle.writing.specs.Writing.{asksFor, countCode, opening, afterOpening, encoded, scalar, takes as takesField, adding, afterAdding, closing, afterClosing};
 use buffers::put;
-use encoding::scalars::encode;
+use encoding::encode;
 use kinds::Scalar;
 use opening::write_header;
 use payload::payload;

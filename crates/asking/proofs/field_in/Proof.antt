@@ -3,7 +3,7 @@ use native.Mathlib.Omega.{arith}
 use Prim.Native.Nat.{ℕ, _/_, _≤_}
 use mathlib.Core.Path.{ap, ap₂, sym, _∙_, subst}
 use Rattle.sim0mq.specs.Codes.{widthOf}
-use Rattle.fields.proofs.FieldCases.{width-positive}
+use Rattle.values.proofs.ValueCases.{width-positive}
 use borrow.Author.Needs.{needs}
 use Rattle.asking.proofs.field_in.Statement.{statement}
 use Rattle.asking.proofs.field_in.Tie as tie

@@ -6,7 +6,7 @@ use lib.ListN.{take, drop}
 use native.Mathlib.Omega.{arith}
 use Rattle.fields.specs.Items.{fielded}
 use Rattle.asking.specs.Asking.{viewOf}
-use Rattle.asking.proofs.StandingLaws.{asked-standing}
+use Rattle.asking.proofs.PartLaws.{asked-inside}
 use Rattle.asking.proofs.view.Statement.{statement}
 use Rattle.asking.proofs.view.Tie as tie
 
@@ -29,7 +29,7 @@ enum-known-f : tie.Need-enum-known-f
 enum-known-f c = search needs
 
 add-end : tie.Need-add-end
-add-end c = let within = asked-standing _ _ _ (sym (c .before .before .before .before .ask .ensures) ∙ ap fielded (c .before .before .f .given .1)) .within in omega arith
+add-end c = let within = asked-inside _ _ _ (sym (c .before .before .before .before .ask .ensures) ∙ ap fielded (c .before .before .f .given .1)) in omega arith
 
 sub-result-2 : tie.Need-sub-result-2
 sub-result-2 c = search needs
@@ -38,7 +38,7 @@ part-result-start-2 : tie.Need-part-result-start-2
 part-result-start-2 c = search needs
 
 part-result-end-2 : tie.Need-part-result-end-2
-part-result-end-2 c = let within = asked-standing _ _ _ (sym (c .before .before .before .before .ask .ensures) ∙ ap fielded (c .before .before .f .given .1)) .within in omega arith
+part-result-end-2 c = let within = asked-inside _ _ _ (sym (c .before .before .before .before .ask .ensures) ∙ ap fielded (c .before .before .f .given .1)) in omega arith
 
 returns : tie.Need-returns
 returns c = sym (ap (viewOf _) (sym (c .before .before .before .ask .ensures) ∙ ap fielded (c .before .enum-told .given .1)))

@@ -5,8 +5,8 @@ use mathlib.Core.Path.{sym, ap, _∙_}
 use mathlib.Core.List.{List}
 use Prim.Native.Nat.{ℕ}
 use lib.ListN.{getD}
-use Rattle.asking.specs.Scalars.{valued}
-use Rattle.asking.specs.declared.scalars.Value.{Value}
+use Rattle.scalars.specs.Scalars.{valued}
+use Rattle.scalars.specs.declared.answer.Value.{Value}
 use Rattle.casting.specs.Casting.{valueNumbers}
 use Rattle.casting.proofs.value_numbers.Statement.{statement}
 use Rattle.casting.proofs.value_numbers.Tie as tie

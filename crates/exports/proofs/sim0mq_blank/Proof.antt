@@ -1,9 +1,9 @@
 -- Where there is room, the numbers are those of what `blank` answers, and `out` is as it leaves it.
 use borrow.Author.Needs.{needs}
 use native.Mathlib.Omega.{arith}
-use mathlib.Core.Path.{ap, _∙_}
+use mathlib.Core.Path.{refl, ap, _∙_}
 use Rattle.crossing.specs.Numbers.{lengthNumbers}
-use Rattle.exports.proofs.GivenLaws.{given-short, given-room, returned-short, answered-short, returned-room, answered-room}
+use Rattle.giving.proofs.GivenLaws.{given-short, given-room, returned-short, answered-short, returned-room, answered-all}
 use Rattle.exports.proofs.sim0mq_blank.Statement.{statement}
 use Rattle.exports.proofs.sim0mq_blank.Tie as tie
 
@@ -22,6 +22,12 @@ slice-aggregate-give c = search needs
 give-requires : tie.Need-give-requires
 give-requires c κs = search needs
 
+array-read-result : tie.Need-array-read-result
+array-read-result c = search needs
+
+cast-result : tie.Need-cast-result
+cast-result c = search needs
+
 same-length : tie.Need-same-length
 same-length c = search needs
 
@@ -35,7 +41,7 @@ returns-2 c =
     let b = n .before .before .before in
     let room = b .before .before .if1 .left in
     let e = n .length-numbers .ensures .0 ∙ ap lengthNumbers (b .blank .ensures .0) in
-    (returned-room _ _ _ _ _ room e (g .give .ensures .0), (b .blank .ensures .1 ∙ given-room _ _ _ _ room, answered-room _ _ _ _ _ room e (g .give .ensures .1)))
+    (returned-room _ _ _ _ _ room e refl, (b .blank .ensures .1 ∙ given-room _ _ _ _ room, answered-all 3 _ _ _ _ (search needs) e (g .give .ensures)))
 
 pub sim0mq-blank-spec : {M : Type 1} → statement M
 sim0mq-blank-spec =
@@ -46,6 +52,8 @@ sim0mq-blank-spec =
     length-numbers-requires
     slice-aggregate-give
     give-requires
+    array-read-result
+    cast-result
     same-length
     same-length-2
     returns-2)

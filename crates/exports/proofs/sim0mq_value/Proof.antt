@@ -1,8 +1,8 @@
 -- Where there is room, the numbers are those of what `value` answers.
 use borrow.Author.Needs.{needs}
-use mathlib.Core.Path.{ap, _∙_}
+use mathlib.Core.Path.{refl, ap, _∙_}
 use Rattle.casting.specs.Casting.{valueNumbers}
-use Rattle.exports.proofs.GivenLaws.{returned-short, answered-short, returned-room, answered-room}
+use Rattle.giving.proofs.GivenLaws.{returned-short, answered-short, returned-room, answered-all}
 use Rattle.exports.proofs.sim0mq_value.Statement.{statement}
 use Rattle.exports.proofs.sim0mq_value.Tie as tie
 
@@ -21,6 +21,12 @@ slice-aggregate-give c = search needs
 give-requires : tie.Need-give-requires
 give-requires c κs = search needs
 
+array-read-result : tie.Need-array-read-result
+array-read-result c = search needs
+
+cast-result : tie.Need-cast-result
+cast-result c = search needs
+
 same-length : tie.Need-same-length
 same-length c = search needs
 
@@ -30,7 +36,7 @@ returns-2 c =
     let n = g .before .before .before in
     let room = n .before .before .if1 .left in
     let e = n .value-numbers .ensures .0 ∙ ap valueNumbers (n .before .value .ensures) in
-    (returned-room _ _ _ _ _ room e (g .give .ensures .0), answered-room _ _ _ _ _ room e (g .give .ensures .1))
+    (returned-room _ _ _ _ _ room e refl, answered-all 7 _ _ _ _ (search needs) e (g .give .ensures))
 
 pub sim0mq-value-spec : {M : Type 1} → statement M
 sim0mq-value-spec =
@@ -41,5 +47,7 @@ sim0mq-value-spec =
     value-numbers-requires
     slice-aggregate-give
     give-requires
+    array-read-result
+    cast-result
     same-length
     returns-2)

@@ -1,9 +1,9 @@
 -- Where there is room, the numbers are those of what `ask` answers.
 use borrow.Author.Needs.{needs}
 use native.Mathlib.Omega.{arith}
-use mathlib.Core.Path.{ap, _∙_}
+use mathlib.Core.Path.{refl, ap, _∙_}
 use Rattle.crossing.specs.Numbers.{viewNumbers}
-use Rattle.exports.proofs.GivenLaws.{returned-short, answered-short, returned-room, answered-room}
+use Rattle.giving.proofs.GivenLaws.{returned-short, answered-short, returned-room, answered-all}
 use Rattle.exports.proofs.sim0mq_view.Statement.{statement}
 use Rattle.exports.proofs.sim0mq_view.Tie as tie
 
@@ -22,6 +22,12 @@ slice-aggregate-give c = search needs
 give-requires : tie.Need-give-requires
 give-requires c κs = search needs
 
+array-read-result : tie.Need-array-read-result
+array-read-result c = search needs
+
+cast-result : tie.Need-cast-result
+cast-result c = search needs
+
 same-length : tie.Need-same-length
 same-length c = search needs
 
@@ -31,7 +37,7 @@ returns-2 c =
     let n = g .before .before .before in
     let room = n .before .before .if1 .left in
     let e = n .view-numbers .ensures .0 ∙ ap viewNumbers (n .before .ask .ensures) in
-    (returned-room _ _ _ _ _ room e (g .give .ensures .0), answered-room _ _ _ _ _ room e (g .give .ensures .1))
+    (returned-room _ _ _ _ _ room e refl, answered-all 4 _ _ _ _ (search needs) e (g .give .ensures))
 
 pub sim0mq-view-spec : {M : Type 1} → statement M
 sim0mq-view-spec =
@@ -42,5 +48,7 @@ sim0mq-view-spec =
     view-numbers-requires
     slice-aggregate-give
     give-requires
+    array-read-result
+    cast-result
     same-length
     returns-2)

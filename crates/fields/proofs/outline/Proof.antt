@@ -2,7 +2,7 @@
 use borrow.Author.Needs.{needs}
 use mathlib.Core.Path.{sym, ap, _∙_}
 use Rattle.sim0mq.specs.Views.{judged}
-use Rattle.fields.specs.Items.{headed}
+use Rattle.heads.specs.Heads.{headed}
 use Rattle.fields.proofs.FieldCases.{outline-head-stop, outline-marks-stop, outline-size-stop, outline-fine}
 use Rattle.fields.proofs.outline.Statement.{statement}
 use Rattle.fields.proofs.outline.Tie as tie

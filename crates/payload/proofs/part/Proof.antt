@@ -10,7 +10,7 @@ use Rattle.sim0mq.specs.Answer.{fine}
 use Rattle.sim0mq.specs.Mark.{marks}
 use Rattle.sim0mq.specs.Payload.{moved}
 use Rattle.sim0mq.specs.Views.{judged}
-use Rattle.fields.specs.Items.{headed}
+use Rattle.heads.specs.Heads.{headed}
 use Rattle.payload.specs.Parts.{stepsFrom, partSteps}
 use Rattle.payload.specs.Kept.{front, keptAll}
 use Rattle.marks.proofs.MarkCases.{marks-done, marks-more, marks-stop}

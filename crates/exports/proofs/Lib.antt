@@ -1,2 +1,0 @@
-pub mod GivenLaws
-pub mod WriterLaws

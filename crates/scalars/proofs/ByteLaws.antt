@@ -1,0 +1,51 @@
+-- Writing a number gives back the bytes that it was read from, since a byte is what is left of the number after division by 256.
+use Prim.Native.Nat.{ℕ, zero, suc, _+_, _-_, _*_, _/_, _%_, _<_, _≤_, _^_}
+use mathlib.Core.Path.{_≡_, refl, ap, sym, _∙_, subst}
+use mathlib.Core.Bool.{Bool, true, false, cond, not}
+use mathlib.Core.List.{List, [], _∷_, _++_}
+use native.Mathlib.Omega.{arith}
+use lib.Arith.{digits-lt, digits-div, digits-mod}
+use lib.Pow.{pow-add}
+use lib.Dec.{T, ltb}
+use lib.IntN.{pos, negsuc}
+use lib.ListN.{length, take, drop, length-drop}
+use lib.Seq.{take-suc, getD-drop}
+use lib.Ieee.{Format, top, nanBits, ofBits, toBits}
+use lib.Ieee.Bits.{toBits-ofBits, nanBits-is}
+use Rattle.sim0mq.specs.Answer.{byte, big}
+use Rattle.kinds.specs.Kinds.{twos}
+use Rattle.scalars.specs.Bytes.{bigBytes, bitsOf}
+
+module _ (s : List ℕ) (bytes : (i : ℕ) → byte s i < 256) where
+  -- the bytes of a number that is read are those it was read from
+  pub bytes-back : (n at : ℕ) → at + n ≤ length s → bigBytes n (big s at n) ≡ take n (drop at s)
+  unfolding bigBytes big
+  bytes-back zero at h = refl
+  bytes-back (suc n) at h =
+      let b = byte s (at + n) in
+      let front : (big s at n * 256 + b) / 256 ≡ big s at n = digits-div (big s at n) (bytes (at + n)) in
+      let last : (big s at n * 256 + b) % 256 ≡ b = digits-mod (big s at n) (bytes (at + n)) in
+      let more = take-suc (drop at s) n 0 (omega (arith, length-drop at s)) in
+      rw (front, last, bytes-back n at (omega arith)) (sym (more ∙ ap (λ (x : ℕ). take n (drop at s) ++ (x ∷ [])) (getD-drop at s n 0)))
+
+  -- and it fits as many bits
+  pub big-fits : (n at : ℕ) → big s at n < 2 ^ (8 * n)
+  unfolding big
+  big-fits zero at = omega arith
+  big-fits (suc n) at =
+      let e : 8 * suc n ≡ 8 * n + 8 = omega arith in
+      let p : 2 ^ (8 * suc n) ≡ 2 ^ (8 * n) * 256 = ap (λ (k : ℕ). 2 ^ k) e ∙ pow-add 2 (8 * n) 8 in
+      subst (λ (k : ℕ). big s at n * 256 + byte s (at + n) < k) (sym p) (digits-lt (big-fits n at) (bytes (at + n)))
+
+-- the bits of a signed number are those it was read from
+pub bits-back : (w n : ℕ) → n < 2 ^ w → bitsOf w (twos w n) ≡ n
+unfolding bitsOf twos
+bits-back w n h = either (ltb n (2 ^ (w - 1)))
+  where
+    either : (b : Bool) → bitsOf w (cond b (pos n) (negsuc (2 ^ w - suc n))) ≡ n
+    either true = refl
+    either false = omega arith
+
+-- and so are those of a float that is no NaN
+pub float-back : (f : Format) (n : ℕ) → n < 2 * top f → nanBits f n ≡ false → toBits f (ofBits f n) ≡ n
+float-back f n h e = toBits-ofBits f n h (subst (λ (b : Bool). T (not b)) (sym (sym (nanBits-is f n) ∙ e)) tt)

@@ -1,0 +1,9 @@
+pub mod ScalarCases
+pub mod OneLaws
+pub mod StandingLaws
+pub mod ReadCases
+pub mod NotNumbers
+pub mod ByteLaws
+pub mod BackLaws
+pub mod AloneLaws
+pub mod Promises

@@ -1,0 +1,3 @@
+pub mod Scalars
+pub mod Bytes
+pub mod Promises
