@@ -1,4 +1,4 @@
-// Scalars as numbers, and numbers as scalars.
+// Scalars as numbers, stored in the answer that a caller lends, and numbers as scalars.
 ghost use mathlib.Core.Path.{_≡_};
 ghost use mathlib.Core.List.{_∷_};
 ghost use Prim.Native.Nat.{_<_};
@@ -6,6 +6,8 @@ ghost use lib.Ieee.{binary32, binary64, toBits};
 ghost use lib.ListN.{getD};
 ghost use Rattle.scalars.specs.Scalars.{valued};
 ghost use Rattle.casting.specs.Casting.{withMark, withNone, scalarNumbers, valueNumbers, from8, from16, from32, scalarFrom};
+ghost use Rattle.giving.specs.Given.{returned, answerAfter};
+use giving::give;
 use kinds::Mark;
 use kinds::Scalar;
 use kinds::double_of;
@@ -82,7 +84,7 @@ fn scalar_numbers(v: Scalar) -> [u64; 7]
 }
 
 // The numbers of what asking for a value answers.
-pub fn value_numbers(said: Value) -> [u64; 7]
+fn value_numbers(said: Value) -> [u64; 7]
     ensures numbers { λ r. ⌜ r ≡ valueNumbers (valued said) ⌝ }
     ensures small { λ r. ⌜ getD r 0 0 < 4294967296 ⌝ }
 {
@@ -90,6 +92,16 @@ pub fn value_numbers(said: Value) -> [u64; 7]
         Value::Refused(r) => [r.number as u64, r.place as u64, 0, 0, 0, 0, 0],
         Value::Is(v) => scalar_numbers(v),
     }
+}
+
+// Stores the 7 numbers of what asking for a value answers in `answer`, and returns the first of them; 255, and nothing is stored, where `answer` is too
+// short.
+pub fn give_value(said: Value, answer: &mut [u64]) -> u32
+    ensures returned { λ r. ⌜ r ≡ returned 7 (now (answer .entry)) (valueNumbers (valued said)) ⌝ }
+    ensures answered { λ _. ⌜ now (answer .exit) ≡ answerAfter 7 (now (answer .entry)) (valueNumbers (valued said)) ⌝ }
+{
+    let numbers = value_numbers(said);
+    give(&numbers, answer) as u32
 }
 
 // The scalar of a kind of 8 bits.

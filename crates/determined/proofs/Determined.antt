@@ -64,13 +64,13 @@ use Rattle.puts.proofs.bits.Reads as bits
 use Rattle.puts.proofs.put_big.Reads as put-big
 use Rattle.puts.proofs.put_number.Reads as put-number
 use Rattle.encoding.proofs.encode.Reads as encode
-use Rattle.crossing.proofs.read_numbers.Reads as read-numbers
-use Rattle.crossing.proofs.length_numbers.Reads as length-numbers
-use Rattle.crossing.proofs.view_numbers.Reads as view-numbers
-use Rattle.writer_crossing.proofs.wrote_numbers.Reads as wrote-numbers
+use Rattle.crossing.proofs.give_read.Reads as give-read
+use Rattle.crossing.proofs.give_length.Reads as give-length
+use Rattle.crossing.proofs.give_view.Reads as give-view
+use Rattle.writer_crossing.proofs.give_wrote.Reads as give-wrote
 use Rattle.writer_crossing.proofs.writer_of.Reads as writer-of
 use Rattle.writer_crossing.proofs.count_type.Reads as count-type
-use Rattle.casting.proofs.value_numbers.Reads as value-numbers
+use Rattle.casting.proofs.give_value.Reads as give-value
 use Rattle.casting.proofs.scalar_from.Reads as scalar-from
 use Rattle.giving.proofs.give.Reads as give
 use Rattle.exports.proofs.sim0mq_read.Reads as c-read
@@ -323,25 +323,40 @@ pub close-result : Determines close.Post (λ κs z e. z)
 close-result = equated close.Post (λ κs z e. z) _ (λ κs a z e p. p)
 
 -- The calls of crate casting.
-pub value-numbers-result : Determines value-numbers.Post (λ κs z e. z)
-value-numbers-result = equated value-numbers.Post (λ κs z e. z) _ (λ κs a z e p. p .0)
+pub give-value-result : Determines give-value.Post (λ κs z e. z)
+give-value-result = equated give-value.Post (λ κs z e. z) _ (λ κs a z e p. p .0)
+
+pub give-value-answer : Determines give-value.Post (λ κs z e. now (e .1 .0))
+give-value-answer = equated give-value.Post (λ κs z e. now (e .1 .0)) _ (λ κs a z e p. p .1)
 
 pub scalar-from-result : Determines scalar-from.Post (λ κs z e. z)
 scalar-from-result = equated scalar-from.Post (λ κs z e. z) _ (λ κs a z e p. p)
 
 -- The calls of crate crossing.
-pub read-numbers-result : Determines read-numbers.Post (λ κs z e. z)
-read-numbers-result = equated read-numbers.Post (λ κs z e. z) _ (λ κs a z e p. p .0)
+pub give-read-result : Determines give-read.Post (λ κs z e. z)
+give-read-result = equated give-read.Post (λ κs z e. z) _ (λ κs a z e p. p .0)
 
-pub length-numbers-result : Determines length-numbers.Post (λ κs z e. z)
-length-numbers-result = equated length-numbers.Post (λ κs z e. z) _ (λ κs a z e p. p .0)
+pub give-read-answer : Determines give-read.Post (λ κs z e. now (e .1 .0))
+give-read-answer = equated give-read.Post (λ κs z e. now (e .1 .0)) _ (λ κs a z e p. p .1)
 
-pub view-numbers-result : Determines view-numbers.Post (λ κs z e. z)
-view-numbers-result = equated view-numbers.Post (λ κs z e. z) _ (λ κs a z e p. p .0)
+pub give-length-result : Determines give-length.Post (λ κs z e. z)
+give-length-result = equated give-length.Post (λ κs z e. z) _ (λ κs a z e p. p .0)
+
+pub give-length-answer : Determines give-length.Post (λ κs z e. now (e .1 .0))
+give-length-answer = equated give-length.Post (λ κs z e. now (e .1 .0)) _ (λ κs a z e p. p .1)
+
+pub give-view-result : Determines give-view.Post (λ κs z e. z)
+give-view-result = equated give-view.Post (λ κs z e. z) _ (λ κs a z e p. p .0)
+
+pub give-view-answer : Determines give-view.Post (λ κs z e. now (e .1 .0))
+give-view-answer = equated give-view.Post (λ κs z e. now (e .1 .0)) _ (λ κs a z e p. p .1)
 
 -- The calls of crate writer_crossing.
-pub wrote-numbers-result : Determines wrote-numbers.Post (λ κs z e. z)
-wrote-numbers-result = equated wrote-numbers.Post (λ κs z e. z) _ (λ κs a z e p. p .0)
+pub give-wrote-result : Determines give-wrote.Post (λ κs z e. z)
+give-wrote-result = equated give-wrote.Post (λ κs z e. z) _ (λ κs a z e p. p .0)
+
+pub give-wrote-answer : Determines give-wrote.Post (λ κs z e. now (e .1 .0))
+give-wrote-answer = equated give-wrote.Post (λ κs z e. now (e .1 .0)) _ (λ κs a z e p. p .1)
 
 pub writer-of-result : Determines writer-of.Post (λ κs z e. z)
 writer-of-result = equated writer-of.Post (λ κs z e. z) _ (λ κs a z e p. p)
@@ -350,8 +365,11 @@ pub count-type-result : Determines count-type.Post (λ κs z e. z)
 count-type-result = equated count-type.Post (λ κs z e. z) _ (λ κs a z e p. p)
 
 -- The call of crate giving.
+pub give-result : Determines give.Post (λ κs z e. z)
+give-result = equated give.Post (λ κs z e. z) _ (λ κs a z e p. p .0)
+
 pub give-answer : Determines give.Post (λ κs z e. now (e .1 .0))
-give-answer = equated give.Post (λ κs z e. now (e .1 .0)) _ (λ κs a z e p. p)
+give-answer = equated give.Post (λ κs z e. now (e .1 .0)) _ (λ κs a z e p. p .1)
 
 -- The calls of crate exports.
 pub c-read-result : Determines c-read.Post (λ κs z e. z)

@@ -2,7 +2,7 @@
 // caller lends. Each returns 0 where it is granted, the refusal's number where it is refused, and 255 where the lent answer is too short; then nothing is
 // written.
 ghost use mathlib.Core.Path.{_≡_};
-ghost use lib.ListN.{length, getD};
+ghost use lib.ListN.{length};
 ghost use Rattle.sim0mq.specs.Blank.{blanking, outputAfter};
 ghost use Rattle.sim0mq.specs.Message.{noTable, table as tableOf, reading as readingOf, tableAfter};
 ghost use Rattle.reading.specs.Answers.{answered};
@@ -14,39 +14,19 @@ ghost use Rattle.casting.specs.Casting.{valueNumbers};
 ghost use Rattle.giving.specs.Given.{given, returned, answerAfter};
 use asking::ask;
 use blanking::blank;
-use casting::value_numbers;
-use crossing::length_numbers;
-use crossing::read_numbers;
-use crossing::view_numbers;
+use casting::give_value;
+use crossing::give_length;
+use crossing::give_read;
+use crossing::give_view;
 use giving::TOO_SHORT;
-use giving::give;
-use reading::Answer;
 use reading::judge;
 use reading::read;
 use scalars::value;
 
-// How many numbers each call answers.
+// How many numbers the calls answer that write more than the answer.
 const READ: usize = 21;
 
-const JUDGE: usize = 21;
-
-const VALUE: usize = 7;
-
-const VIEW: usize = 4;
-
 const BLANK: usize = 3;
-
-// Stores the numbers of what reading answers in `lent`, and returns the first of them.
-fn give_read(a: Answer, lent: &mut [u64]) -> u32
-    ensures first { λ r. ⌜ r ≡ getD (readNumbers a) 0 0 ⌝ }
-    ensures given { λ _. ⌜ now (lent .exit) ≡ answerAfter 21 (now (lent .entry)) (readNumbers a) ⌝ }
-{
-    let said = a.said;
-    let frames = a.frames;
-    let numbers = read_numbers(said, frames);
-    give(&numbers, lent);
-    numbers[0] as u32
-}
 
 // Reads the message, and stores its rows in the table once it is accepted; answers the 21 numbers of `readNumbers`.
 #[no_mangle]
@@ -58,8 +38,7 @@ pub extern "C" fn sim0mq_read(message: &[u8], table: &mut [u32], answer: &mut [u
     if answer.len() < READ {
         return TOO_SHORT;
     }
-    let a = read(message, table);
-    give_read(a, answer)
+    give_read(read(message, table), answer)
 }
 
 // Judges the message as reading does, with no table; answers the same 21 numbers.
@@ -68,11 +47,7 @@ pub extern "C" fn sim0mq_judge(message: &[u8], answer: &mut [u64]) -> u32
     ensures returned { λ r. ⌜ r ≡ returned 21 (now (answer .entry)) (readNumbers (answered (readingOf noTable (now (message .entry))))) ⌝ }
     ensures answered { λ _. ⌜ now (answer .exit) ≡ answerAfter 21 (now (answer .entry)) (readNumbers (answered (readingOf noTable (now (message .entry))))) ⌝ }
 {
-    if answer.len() < JUDGE {
-        return TOO_SHORT;
-    }
-    let a = judge(message);
-    give_read(a, answer)
+    give_read(judge(message), answer)
 }
 
 // The value of field k, where it is a scalar, in the 7 numbers of `valueNumbers`.
@@ -81,12 +56,7 @@ pub extern "C" fn sim0mq_value(message: &[u8], k: u64, answer: &mut [u64]) -> u3
     ensures returned { λ r. ⌜ r ≡ returned 7 (now (answer .entry)) (valueNumbers (valueOf (now (message .entry)) k)) ⌝ }
     ensures answered { λ _. ⌜ now (answer .exit) ≡ answerAfter 7 (now (answer .entry)) (valueNumbers (valueOf (now (message .entry)) k)) ⌝ }
 {
-    if answer.len() < VALUE {
-        return TOO_SHORT;
-    }
-    let numbers = value_numbers(value(message, k as usize));
-    give(&numbers, answer);
-    numbers[0] as u32
+    give_value(value(message, k as usize), answer)
 }
 
 // The place of field k's first value byte, and how many there are, in the 4 numbers of `viewNumbers`.
@@ -95,12 +65,7 @@ pub extern "C" fn sim0mq_view(message: &[u8], k: u64, answer: &mut [u64]) -> u32
     ensures returned { λ r. ⌜ r ≡ returned 4 (now (answer .entry)) (viewNumbers (asked (now (message .entry)) k)) ⌝ }
     ensures answered { λ _. ⌜ now (answer .exit) ≡ answerAfter 4 (now (answer .entry)) (viewNumbers (asked (now (message .entry)) k)) ⌝ }
 {
-    if answer.len() < VIEW {
-        return TOO_SHORT;
-    }
-    let numbers = view_numbers(ask(message, k as usize));
-    give(&numbers, answer);
-    numbers[0] as u32
+    give_view(ask(message, k as usize), answer)
 }
 
 // Copies the message to `out`, with zero in every payload value byte; answers its length, in the 3 numbers of `lengthNumbers`.
@@ -113,7 +78,5 @@ pub extern "C" fn sim0mq_blank(message: &[u8], out: &mut [u8], answer: &mut [u64
     if answer.len() < BLANK {
         return TOO_SHORT;
     }
-    let numbers = length_numbers(blank(message, out));
-    give(&numbers, answer);
-    numbers[0] as u32
+    give_length(blank(message, out), answer)
 }

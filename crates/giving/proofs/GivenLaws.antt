@@ -1,8 +1,10 @@
 -- What a call leaves, by whether the lent answer has room for its numbers.
 use Prim.Native.Nat.{ℕ, _≤_, _<_}
+use native.Mathlib.Omega.{arith}
+use lib.Dec.{leb}
 use borrow.Author.Tests.{le-leb, lt-leb}
 use mathlib.Core.Path.{_≡_, sym, ap, _∙_}
-use mathlib.Core.Bool.{Bool, cond}
+use mathlib.Core.Bool.{Bool, true, false, cond}
 use mathlib.Core.List.{List}
 use lib.ListN.{length, getD}
 use Rattle.sim0mq.specs.Table.{stored}
@@ -36,11 +38,24 @@ pub answered-room : (n : ℕ) (answer answer₁ told : List ℕ) → n ≤ lengt
 unfolding answerAfter
 answered-room n answer answer₁ told h e = e ∙ given-room n answer (stored answer told) answer h
 
--- The lent answer has the numbers that the definition tells, where they are those that were stored.
-pub answered-told : (n : ℕ) (answer answer₁ numbers told : List ℕ) → numbers ≡ told → answer₁ ≡ answerAfter n answer numbers → answer₁ ≡ answerAfter n answer told
-answered-told n answer answer₁ numbers told e h = h ∙ ap (answerAfter n answer) e
+-- What is returned and the lent answer are as the definition tells, where its numbers are those that were stored.
+pub both-told : (n : ℕ) (answer answer₁ numbers told : List ℕ) (r : ℕ) → numbers ≡ told → (r ≡ returned n answer numbers) × (answer₁ ≡ answerAfter n answer numbers)
+    → (r ≡ returned n answer told) × (answer₁ ≡ answerAfter n answer told)
+both-told n answer answer₁ numbers told r e h = (h .0 ∙ ap (returned n answer) e, h .1 ∙ ap (answerAfter n answer) e)
 
 -- So too where they are as many as the call answers.
-pub answered-all : (n : ℕ) (answer answer₁ numbers told : List ℕ) → length numbers ≡ n → numbers ≡ told → answer₁ ≡ answerAfter (length numbers) answer numbers
-    → answer₁ ≡ answerAfter n answer told
-answered-all n answer answer₁ numbers told l e h = answered-told n answer answer₁ numbers told e (h ∙ ap (λ (m : ℕ). answerAfter m answer numbers) l)
+pub both-all : (n : ℕ) (answer answer₁ numbers told : List ℕ) (r : ℕ) → length numbers ≡ n → numbers ≡ told
+    → (r ≡ returned (length numbers) answer numbers) × (answer₁ ≡ answerAfter (length numbers) answer numbers)
+    → (r ≡ returned n answer told) × (answer₁ ≡ answerAfter n answer told)
+both-all n answer answer₁ numbers told r l e h =
+    both-told n answer answer₁ numbers told r e
+    (h .0 ∙ ap (λ (m : ℕ). returned m answer numbers) l, h .1 ∙ ap (λ (m : ℕ). answerAfter m answer numbers) l)
+
+-- One of two small numbers is small; so is the returned number where the first of the numbers is.
+small : (b : Bool) (x : ℕ) → x < 4294967296 → cond b x 255 < 4294967296
+small true x h = h
+small false x h = omega arith
+
+pub returned-small : (n : ℕ) (answer numbers : List ℕ) (r : ℕ) → r ≡ returned n answer numbers → getD numbers 0 0 < 4294967296 → r < 4294967296
+unfolding returned given
+returned-small n answer numbers r e h = rw e (small (leb n (length answer)) (getD numbers 0 0) h)

@@ -1,17 +1,21 @@
-// The writer's answers as numbers, and its state and the count's type of numbers: what the calls for C and Rust hand over.
+// The writer's answers as numbers, stored in the answer that a caller lends, and its state and the count's type of numbers: what the calls for C and Rust
+// hand over.
 ghost use mathlib.Core.Path.{_≡_};
 ghost use mathlib.Core.List.{_++_};
 ghost use Prim.Native.Nat.{_<_};
 ghost use lib.ListN.{getD};
 ghost use Rattle.sim0mq.specs.Views.{judged};
 ghost use Rattle.crossing.specs.Numbers.{lengthNumbers};
-ghost use Rattle.writer_crossing.specs.States.{stateNumbers, writerOf, countType};
+ghost use Rattle.writer_crossing.specs.States.{stateNumbers, wroteNumbers, writerOf, countType};
+ghost use Rattle.giving.specs.Given.{returned, answerAfter};
+use giving::give;
 use sim0mq::Judged;
 use writing::CountType;
 use writing::Writer;
+use writing::Wrote;
 
 // The numbers of what a call of the writer answers, and of the state that it hands back.
-pub fn wrote_numbers(said: Judged, w: Writer) -> [u64; 7]
+fn wrote_numbers(said: Judged, w: Writer) -> [u64; 7]
     ensures numbers { λ r. ⌜ r ≡ lengthNumbers (judged said) ++ stateNumbers w ⌝ }
     ensures small { λ r. ⌜ getD r 0 0 < 4294967296 ⌝ }
 {
@@ -31,6 +35,18 @@ pub fn wrote_numbers(said: Judged, w: Writer) -> [u64; 7]
         ],
         Judged::Accepted(n) => [0, 0, n as u64, written, declared, added, closed],
     }
+}
+
+// Stores the 7 numbers of what a call of the writer answers, and of the state that it hands back, in `answer`, and returns the first of them; 255, and
+// nothing is stored, where `answer` is too short.
+pub fn give_wrote(w: Wrote, answer: &mut [u64]) -> u32
+    ensures returned { λ r. ⌜ r ≡ returned 7 (now (answer .entry)) (wroteNumbers w) ⌝ }
+    ensures answered { λ _. ⌜ now (answer .exit) ≡ answerAfter 7 (now (answer .entry)) (wroteNumbers w) ⌝ }
+{
+    let said = w.said;
+    let writer = w.writer;
+    let numbers = wrote_numbers(said, writer);
+    give(&numbers, answer) as u32
 }
 
 // The writer's state of these numbers.

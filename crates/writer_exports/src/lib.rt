@@ -2,42 +2,26 @@
 // slice that the caller lends. Each returns 0 where it is granted, the refusal's number where it is refused, and 255 where the lent answer is too short;
 // then nothing is written.
 ghost use mathlib.Core.Path.{_≡_};
-ghost use lib.ListN.{length, getD};
+ghost use lib.ListN.{length};
 ghost use Rattle.writing.specs.Writing.{asksFor, encoded, scalar};
-ghost use Rattle.writer_crossing.specs.States.{wroteNumbers, writerOf, countType};
+ghost use Rattle.writer_crossing.specs.States.{writerOf, countType};
 ghost use Rattle.casting.specs.Casting.{markFrom, scalarFrom};
 ghost use Rattle.giving.specs.Given.{given, returned, answerAfter};
 ghost use Rattle.writer_exports.specs.Calls.{openNumbers, openedIn, addNumbers, addedIn, closeNumbers};
 use casting::scalar_from;
 use giving::TOO_SHORT;
-use giving::give;
 use kinds::Mark;
 use writer_crossing::count_type;
+use writer_crossing::give_wrote;
 use writer_crossing::writer_of;
-use writer_crossing::wrote_numbers;
 use writing::Writer;
-use writing::Wrote;
 
-// How many numbers each call answers.
+// How many numbers the calls answer that write more than the answer.
 const OPEN: usize = 7;
 
 const ADD: usize = 7;
 
 const ADD_SCALAR: usize = 7;
-
-const CLOSE: usize = 7;
-
-// Stores the numbers of what a call of the writer answers, and of the state that it hands back, in `lent`, and returns the first of them.
-fn give_wrote(w: Wrote, lent: &mut [u64]) -> u32
-    ensures first { λ r. ⌜ r ≡ getD (wroteNumbers w) 0 0 ⌝ }
-    ensures given { λ _. ⌜ now (lent .exit) ≡ answerAfter 7 (now (lent .entry)) (wroteNumbers w) ⌝ }
-{
-    let said = w.said;
-    let writer = w.writer;
-    let numbers = wrote_numbers(said, writer);
-    give(&numbers, lent);
-    numbers[0] as u32
-}
 
 // Opens a message in `out`, with the type `kind` of its count where `stated` is not 0; answers the bytes written so far and the writer's state, in the
 // 7 numbers of `wroteNumbers`.
@@ -136,9 +120,6 @@ pub extern "C" fn sim0mq_close(
     ensures returned { λ r. ⌜ r ≡ returned 7 (now (answer .entry)) (closeNumbers (writerOf written declared added closed)) ⌝ }
     ensures answered { λ _. ⌜ now (answer .exit) ≡ answerAfter 7 (now (answer .entry)) (closeNumbers (writerOf written declared added closed)) ⌝ }
 {
-    if answer.len() < CLOSE {
-        return TOO_SHORT;
-    }
     let w = writer_of(written, declared, added, closed).close();
     give_wrote(w, answer)
 }

@@ -3,7 +3,7 @@ use borrow.Author.Needs.{needs}
 use native.Mathlib.Omega.{arith}
 use mathlib.Core.Path.{ap, _∙_}
 use Rattle.crossing.specs.Numbers.{readNumbers}
-use Rattle.giving.proofs.GivenLaws.{given-short, given-room, returned-short, answered-short, returned-room, answered-told}
+use Rattle.giving.proofs.GivenLaws.{given-short, given-room, returned-short, answered-short, both-told}
 use Rattle.exports.proofs.sim0mq_read.Statement.{statement}
 use Rattle.exports.proofs.sim0mq_read.Tie as tie
 
@@ -24,17 +24,12 @@ same-length-2 c = search needs
 
 returns-2 : tie.Need-returns-2
 returns-2 c =
-    let room = c .before .before .before .before .before .before .before .before .if1 .left in
-    let e = ap readNumbers (c .before .before .before .before .before .before .read .ensures .0) in
-    (returned-room _ _ _ _ _ room e (c .before .before .give-read .ensures .0), (c .before .before .before .before .before .before .read .ensures .1 ∙ given-room _ _ _ _ room, answered-told _ _ _ _ _ e (c .before .before .give-read .ensures .1)))
+    let g = c .before .before in
+    let b = g .before .before .before .before in
+    let told = both-told 21 _ _ _ _ _ (ap readNumbers (b .read .ensures .0)) (g .give-read .ensures) in
+    (told .0, (b .read .ensures .1 ∙ given-room 21 _ _ _ (omega (arith, b .before .before .if1 .left)), told .1))
 
 pub sim0mq-read-spec : {M : Type 1} → statement M
 sim0mq-read-spec =
     tie.close
-    (tie.spec
-    returns
-    read-requires
-    give-read-requires
-    same-length
-    same-length-2
-    returns-2)
+    (tie.spec returns read-requires give-read-requires same-length same-length-2 returns-2)

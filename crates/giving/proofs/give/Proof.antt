@@ -6,10 +6,11 @@ use mathlib.Core.Path.{_≡_, refl, sym, ap, _∙_}
 use mathlib.Core.List.{List}
 use native.Mathlib.Numerals.{add-one}
 use native.Mathlib.Nat.{zero-add}
-use lib.ListN.{length, getD, set, length-set}
+use lib.ListN.{length, getD, set, length-set, List·getD-eq-default}
 use lib.Seq.{paste, paste-zero, paste-suc, take-all}
 use Rattle.sim0mq.specs.Table.{stored}
-use Rattle.giving.proofs.GivenLaws.{answered-short, answered-room}
+use Rattle.giving.specs.Given.{answerAfter}
+use Rattle.giving.proofs.GivenLaws.{returned-short, answered-short, returned-room, answered-room}
 use Rattle.giving.proofs.give.Statement.{statement}
 use Rattle.giving.proofs.give.Tie as tie
 
@@ -19,8 +20,11 @@ Inv-loop numbers answer₀ i₀ answer i = (i ≤ length numbers) × (length ans
 abbrev μ-loop : tie.MeasureT-loop
 μ-loop numbers answer₀ i₀ answer i = length numbers - i
 
+cast-result : tie.Need-cast-result Inv-loop μ-loop
+cast-result c = search needs
+
 returns : tie.Need-returns Inv-loop μ-loop
-returns c = answered-short _ _ _ (c .if1 .taken)
+returns c = (returned-short _ _ _ (c .if1 .taken), answered-short _ _ _ (c .if1 .taken))
 
 loop-holds : tie.Need-loop-holds Inv-loop μ-loop
 loop-holds c = (omega arith, refl, paste-zero (c .before .args .answer .now) 0 (c .before .args .numbers .now))
@@ -56,13 +60,29 @@ loop-again c =
 same-length : tie.Need-same-length Inv-loop μ-loop
 same-length c = search needs
 
-returns-2 : tie.Need-returns-2 Inv-loop μ-loop
+-- Once the loop has ended, all numbers are stored.
+all-stored : (d s a : List ℕ) (i : ℕ) → length s ≤ length d → i ≡ length s → a ≡ paste d 0 s i → a ≡ answerAfter (length s) d s
 unfolding stored
+all-stored d s a i room e h = answered-room _ d _ s room (h ∙ rw (e, take-all (length s) s (omega arith), zero-add (length s)) refl)
+
+returns-2 : tie.Need-returns-2 Inv-loop μ-loop
 returns-2 c =
-    let d : List ℕ = c .before .before .before .args .answer .now in
-    let s : List ℕ = c .before .before .before .args .numbers .now in
-    let e : c .before .loop .i ≡ length s = omega arith in
-    answered-room _ d _ s (c .before .before .if1 .left) (c .before .loop .inv .2 ∙ rw (e, take-all (length s) s (omega arith), zero-add (length s)) refl)
+    let l = c .before .before .loop in
+    let room = c .before .before .before .if1 .left in
+    let none = sym (List·getD-eq-default (c .before .before .before .before .args .numbers .now) 0 {n = 0} (omega arith)) in
+    (returned-room _ _ _ _ _ room refl none, all-stored _ _ _ (l .i) room (omega arith) (l .inv .2))
+
+shared-slice-read-result : tie.Need-shared-slice-read-result Inv-loop μ-loop
+shared-slice-read-result c = search needs
+
+same-length-2 : tie.Need-same-length-2 Inv-loop μ-loop
+same-length-2 c = search needs
+
+returns-3 : tie.Need-returns-3 Inv-loop μ-loop
+returns-3 c =
+    let l = c .before .before .before .loop in
+    let room = c .before .before .before .before .if1 .left in
+    (returned-room _ _ _ _ _ room refl refl, all-stored _ _ _ (l .i) room (omega arith) (l .inv .2))
 
 pub give-spec : {M : Type 1} → statement M
 give-spec =
@@ -70,6 +90,7 @@ give-spec =
     (tie.spec
     Inv-loop
     μ-loop
+    cast-result
     returns
     loop-holds
     mul-answer
@@ -80,4 +101,7 @@ give-spec =
     loop-less
     loop-again
     same-length
-    returns-2)
+    returns-2
+    shared-slice-read-result
+    same-length-2
+    returns-3)

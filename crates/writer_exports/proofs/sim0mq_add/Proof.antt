@@ -2,7 +2,7 @@
 use borrow.Author.Needs.{needs}
 use mathlib.Core.Path.{refl, _∙_}
 use Rattle.writing.specs.Writing.{encoded}
-use Rattle.giving.proofs.GivenLaws.{given-short, given-room, returned-short, answered-short, returned-room, answered-told}
+use Rattle.giving.proofs.GivenLaws.{given-short, given-room, returned-short, answered-short, both-told}
 use Rattle.writer_exports.proofs.WriterLaws.{added-as, buffer-as}
 use Rattle.writer_exports.proofs.sim0mq_add.Statement.{statement}
 use Rattle.writer_exports.proofs.sim0mq_add.Tie as tie
@@ -32,7 +32,8 @@ returns-2 c =
     let args = w .before .before .before .before .before .args in
     let e = added-as _ _ (w .writer-of .ensures) (encoded (args .field .now)) _ refl _ _ (c .before .before .before .before .before .before .add .ensures .0) in
     let out = buffer-as _ _ (w .writer-of .ensures) (encoded (args .field .now)) _ refl (args .out .now) _ (c .before .before .before .before .before .before .add .ensures .1) in
-    (returned-room _ _ _ _ _ room e (c .before .before .give-wrote .ensures .0), (out ∙ given-room _ _ _ _ room, answered-told _ _ _ _ _ e (c .before .before .give-wrote .ensures .1)))
+    let told = both-told 7 _ _ _ _ _ e (c .before .before .give-wrote .ensures) in
+    (told .0, (out ∙ given-room _ _ _ _ room, told .1))
 
 pub sim0mq-add-spec : {M : Type 1} → statement M
 sim0mq-add-spec =

@@ -1,12 +1,9 @@
--- Where there is room, the numbers are those of what `close` answers to the state that its numbers tell.
+-- The numbers are those of what `close` answers to the state that its numbers tell.
 use borrow.Author.Needs.{needs}
-use Rattle.giving.proofs.GivenLaws.{returned-short, answered-short, returned-room, answered-told}
+use Rattle.giving.proofs.GivenLaws.{both-told}
 use Rattle.writer_exports.proofs.WriterLaws.{closed-as}
 use Rattle.writer_exports.proofs.sim0mq_close.Statement.{statement}
 use Rattle.writer_exports.proofs.sim0mq_close.Tie as tie
-
-returns : tie.Need-returns
-returns c = (returned-short _ _ _ (c .if1 .taken), answered-short _ _ _ (c .if1 .taken))
 
 writer-of-requires : tie.Need-writer-of-requires
 writer-of-requires c κs = search needs
@@ -20,19 +17,12 @@ give-wrote-requires c κs = search needs
 same-length : tie.Need-same-length
 same-length c = search needs
 
-returns-2 : tie.Need-returns-2
-returns-2 c =
-    let room = c .before .before .before .before .before .before .if1 .left in
-    let e = closed-as _ _ (c .before .before .before .before .before .writer-of .ensures) _ (c .before .before .before .before .close .ensures) in
-    (returned-room _ _ _ _ _ room e (c .before .before .give-wrote .ensures .0), answered-told _ _ _ _ _ e (c .before .before .give-wrote .ensures .1))
+returns : tie.Need-returns
+returns c =
+    let g = c .before .before in
+    let w = g .before .before in
+    both-told 7 _ _ _ _ _ (closed-as _ _ (w .before .writer-of .ensures) _ (w .close .ensures)) (g .give-wrote .ensures)
 
 pub sim0mq-close-spec : {M : Type 1} → statement M
 sim0mq-close-spec =
-    tie.close
-    (tie.spec
-    returns
-    writer-of-requires
-    close-requires
-    give-wrote-requires
-    same-length
-    returns-2)
+    tie.close (tie.spec writer-of-requires close-requires give-wrote-requires same-length returns)

@@ -3,7 +3,7 @@ use borrow.Author.Needs.{needs}
 use mathlib.Core.Path.{_∙_}
 use mir.Syntax.{w64}
 use mir.ValLaws.{toZ-ofZ}
-use Rattle.giving.proofs.GivenLaws.{given-short, given-room, returned-short, answered-short, returned-room, answered-told}
+use Rattle.giving.proofs.GivenLaws.{given-short, given-room, returned-short, answered-short, both-told}
 use Rattle.writer_exports.proofs.WriterLaws.{opened-as, header-as}
 use Rattle.writer_exports.proofs.sim0mq_open.Statement.{statement}
 use Rattle.writer_exports.proofs.sim0mq_open.Tie as tie
@@ -34,7 +34,8 @@ returns-2 c =
     let is = c .before .before .before .before .before .before .before .before .count-type .ensures in
     let e = opened-as _ _ _ _ _ _ _ same is _ _ (c .before .before .before .before .before .before .open .ensures .0) in
     let out = header-as _ _ _ _ _ _ _ same is (start .args .out .now) _ (c .before .before .before .before .before .before .open .ensures .1) in
-    (returned-room _ _ _ _ _ room e (c .before .before .give-wrote .ensures .0), (out ∙ given-room _ _ _ _ room, answered-told _ _ _ _ _ e (c .before .before .give-wrote .ensures .1)))
+    let told = both-told 7 _ _ _ _ _ e (c .before .before .give-wrote .ensures) in
+    (told .0, (out ∙ given-room _ _ _ _ room, told .1))
 
 pub sim0mq-open-spec : {M : Type 1} → statement M
 sim0mq-open-spec =
