@@ -7,7 +7,8 @@ use lib.Ieee.{binary32, binary64, toBits}
 use lib.ListN.{replicate}
 use Rattle.sim0mq.specs.Answer.{Answer, fine, refused}
 use Rattle.scalars.specs.Bytes.{bitsOf}
-use Rattle.kinds.specs.Kinds.{twos, floatOf, doubleOf, withFloat, withDouble}
+use Rattle.signed.specs.Signed.{twos}
+use Rattle.kinds.specs.Kinds.{floatOf, doubleOf, withFloat, withDouble}
 use Rattle.kinds.specs.declared.Mark.{Mark}
 use Rattle.kinds.specs.declared.Scalar.{Scalar}
 use Rattle.kinds.specs.declared.Scalar.the-variants.{Byte, Short, Int, Long, Float, Double, Boolean, Char8, Char16, FloatUnit, DoubleUnit, NotNumber}

@@ -14,12 +14,12 @@ use kinds::double_of;
 use kinds::double_with;
 use kinds::float_of;
 use kinds::float_with;
-use kinds::i8_of;
-use kinds::i16_of;
-use kinds::i32_of;
-use kinds::i64_of;
 use puts::bits;
 use scalars::answer::Value;
+use signed::i8_of;
+use signed::i16_of;
+use signed::i32_of;
+use signed::i64_of;
 
 // The bits of a float; of a NaN, which asking never answers, the pattern with the sign clear and only the highest digit set.
 fn float_bits(x: f32) -> u64

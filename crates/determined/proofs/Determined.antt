@@ -46,10 +46,10 @@ use Rattle.reading.proofs.judge.Reads as judge
 use Rattle.asking.proofs.ask.Reads as ask
 use Rattle.asking.proofs.view.Reads as view
 use Rattle.scalars.proofs.value.Reads as value
-use Rattle.kinds.proofs.i8_of.Reads as i8-of
-use Rattle.kinds.proofs.i16_of.Reads as i16-of
-use Rattle.kinds.proofs.i32_of.Reads as i32-of
-use Rattle.kinds.proofs.i64_of.Reads as i64-of
+use Rattle.signed.proofs.i8_of.Reads as i8-of
+use Rattle.signed.proofs.i16_of.Reads as i16-of
+use Rattle.signed.proofs.i32_of.Reads as i32-of
+use Rattle.signed.proofs.i64_of.Reads as i64-of
 use Rattle.kinds.proofs.float_of.Reads as float-of
 use Rattle.kinds.proofs.double_of.Reads as double-of
 use Rattle.kinds.proofs.float_with.Reads as float-with
@@ -247,7 +247,7 @@ view-result = equated view.Post (λ κs z e. now z) _ (λ κs a z e p. p)
 pub value-result : Determines value.Post (λ κs z e. z)
 value-result = determined value.Post (λ κs z e. z) (λ κs. valued) (λ κs. valued-apart) _ (λ κs a z e p. p)
 
--- The calls of crate kinds.
+-- The calls of crate signed.
 pub i8-of-result : Determines i8-of.Post (λ κs z e. z)
 i8-of-result = equated i8-of.Post (λ κs z e. z) _ (λ κs a z e p. p)
 
@@ -260,6 +260,7 @@ i32-of-result = equated i32-of.Post (λ κs z e. z) _ (λ κs a z e p. p)
 pub i64-of-result : Determines i64-of.Post (λ κs z e. z)
 i64-of-result = equated i64-of.Post (λ κs z e. z) _ (λ κs a z e p. p)
 
+-- The calls of crate kinds.
 pub float-of-result : Determines float-of.Post (λ κs z e. z)
 float-of-result = equated float-of.Post (λ κs z e. z) _ (λ κs a z e p. p)
 

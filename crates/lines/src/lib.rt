@@ -2,7 +2,7 @@
 ghost use Prim.Native.Nat.{_≤_, max};
 ghost use lib.ListN.{length};
 
-pub mod signed;
+pub mod wholes;
 
 // How many bytes an output that a line asks for has at most.
 pub const ROOM: usize = 33000;

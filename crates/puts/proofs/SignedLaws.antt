@@ -10,7 +10,7 @@ use mir.Syntax.{Width}
 use mir.Val.{SFits, toZ, ofZ, hbits}
 use mir.ValLaws.{toZ-ofZ}
 use Rattle.scalars.specs.Bytes.{bitsOf}
-use Rattle.kinds.proofs.Signed.{down, widened}
+use Rattle.signed.proofs.Signed.{down, widened}
 use Rattle.puts.specs.Signed.{bitsUpTo}
 
 -- the bits of a signed number are those in a width whose largest number is 2 ^ w - 1

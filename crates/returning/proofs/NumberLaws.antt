@@ -13,7 +13,7 @@ use Rattle.sim0mq.specs.Answer.{big}
 use Rattle.sim0mq.specs.Codes.{codeKnown, countsOf, markingOf, widthOf, boolean}
 use Rattle.sim0mq.specs.Allowed.{numberAfter, number, Each, none, IsMark, FieldParts, valuesAsked, marksAsked, IsField}
 use Rattle.sim0mq.proofs.Stands.{Stands, big-number}
-use Rattle.kinds.specs.Kinds.{twos}
+use Rattle.signed.specs.Signed.{twos}
 use Rattle.scalars.specs.Bytes.{bigBytes, bitsOf}
 use Rattle.returning.specs.Promises.{InWidth}
 use Rattle.puts.proofs.PlaceLaws.{big-length}

@@ -18,7 +18,7 @@ use Rattle.sim0mq.proofs.Stands.{Stands, stands-to, stands-head, stands-tail, s
 use Rattle.sim0mq.proofs.MessageLaws.{cutOf, message-complete}
 use Rattle.scalars.specs.Bytes.{bigBytes, bitsOf}
 use Rattle.asking.specs.Asking.{nth}
-use Rattle.kinds.specs.Kinds.{twos}
+use Rattle.signed.specs.Signed.{twos}
 use Rattle.scalars.specs.Scalars.{value}
 use Rattle.scalars.specs.Promises.{ownBytes, valueAlone}
 use Rattle.kinds.specs.declared.Scalar.{Scalar}

@@ -18,7 +18,7 @@ use Rattle.sim0mq.specs.Allowed.{number, none, more, FieldParts, fieldBytes, Is
 use Rattle.sim0mq.proofs.Rows.{allPass, pass-among, status-scalar, count-scalar}
 use Rattle.sim0mq.proofs.Stands.{Stands, stands-head, stands-tail, stands-self, big-number}
 use Rattle.scalars.specs.Bytes.{bigBytes, bitsOf}
-use Rattle.kinds.specs.Kinds.{twos}
+use Rattle.signed.specs.Signed.{twos}
 use Rattle.scalars.proofs.ByteLaws.{bytes-back, big-fits, bits-back}
 use Rattle.scalars.proofs.BackLaws.{part-back, one-byte}
 use Rattle.puts.specs.Placing.{numberText}

@@ -19,7 +19,8 @@ use Rattle.sim0mq.proofs.Answers.{and-true}
 use Rattle.sim0mq.proofs.Stands.{Stands, stands-self, stands-head, stands-tail, stands-left, stands-right, big-number}
 use Rattle.sim0mq.proofs.HeaderLaws.{values-there}
 use Rattle.sim0mq.proofs.FieldLaws.{fieldAt, field-complete}
-use Rattle.kinds.specs.Kinds.{twos, floatOf, doubleOf, withFloat, withDouble}
+use Rattle.signed.specs.Signed.{twos}
+use Rattle.kinds.specs.Kinds.{floatOf, doubleOf, withFloat, withDouble}
 use Rattle.scalars.specs.Scalars.{markOf, markAt, scalarOf}
 use Rattle.scalars.specs.Bytes.{bigBytes, bitsOf, scalarBytes, bytesOfMark, markBytes}
 use Rattle.scalars.specs.Promises.{valueAlone}

@@ -15,7 +15,7 @@ use Rattle.sim0mq.specs.Field.{Field}
 use Rattle.sim0mq.specs.Header.{Frame}
 use Rattle.sim0mq.specs.Message.{noTable, Reading, reading}
 use Rattle.scalars.specs.Promises.{ownBytes}
-use Rattle.kinds.specs.Kinds.{twos}
+use Rattle.signed.specs.Signed.{twos}
 use Rattle.scalars.specs.Scalars.{value}
 use Rattle.kinds.specs.declared.Scalar.{Scalar}
 use Rattle.kinds.specs.declared.Scalar.the-variants.{Byte, Short, Int, Long, Float, Double, Boolean, Char8, Char16, FloatUnit, DoubleUnit, NotNumber}

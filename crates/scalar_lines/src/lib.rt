@@ -6,12 +6,12 @@ use lines::NONE;
 use lines::last;
 use lines::number;
 use lines::part;
-use lines::signed::byte_of;
-use lines::signed::int_of;
-use lines::signed::long_of;
-use lines::signed::short_of;
-use lines::signed::signed;
 use lines::starts;
+use lines::wholes::byte_of;
+use lines::wholes::int_of;
+use lines::wholes::long_of;
+use lines::wholes::short_of;
+use lines::wholes::signed;
 
 // A scalar, or that the line is not understood.
 pub enum Told {

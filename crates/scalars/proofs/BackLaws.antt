@@ -15,7 +15,8 @@ use Rattle.sim0mq.specs.Mark.{kindOf}
 use Rattle.sim0mq.specs.Allowed.{Each, none, more, IsMark, withDisplay, withCurrency, withBoth, joined, marksAsked}
 use Rattle.sim0mq.proofs.Stands.{Stands, stands-head, stands-tail, stands-left}
 use Rattle.asking.specs.Asking.{asked}
-use Rattle.kinds.specs.Kinds.{twos, floatOf, doubleOf, withFloat, withDouble}
+use Rattle.signed.specs.Signed.{twos}
+use Rattle.kinds.specs.Kinds.{floatOf, doubleOf, withFloat, withDouble}
 use Rattle.scalars.specs.Scalars.{markOf, markAt}
 use Rattle.scalars.specs.Bytes.{bigBytes, bitsOf, scalarBytes, bytesOfMark, markBytes}
 use Rattle.scalars.specs.Promises.{WritesBack}

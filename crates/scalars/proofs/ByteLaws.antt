@@ -13,7 +13,7 @@ use lib.Seq.{take-suc, getD-drop}
 use lib.Ieee.{Format, top, nanBits, ofBits, toBits}
 use lib.Ieee.Bits.{toBits-ofBits, nanBits-is}
 use Rattle.sim0mq.specs.Answer.{byte, big}
-use Rattle.kinds.specs.Kinds.{twos}
+use Rattle.signed.specs.Signed.{twos}
 use Rattle.scalars.specs.Bytes.{bigBytes, bitsOf}
 
 module _ (s : List ℕ) (bytes : (i : ℕ) → byte s i < 256) where

@@ -9,7 +9,8 @@ use borrow.Author.Tests.{eqb-true}
 use Rattle.sim0mq.specs.Answer.{Answer, fine, big}
 use Rattle.sim0mq.specs.Field.{Field}
 use Rattle.sim0mq.proofs.Answers.{fine-eq, not-fine}
-use Rattle.kinds.specs.Kinds.{twos, floatOf, doubleOf, withFloat, withDouble}
+use Rattle.signed.specs.Signed.{twos}
+use Rattle.kinds.specs.Kinds.{floatOf, doubleOf, withFloat, withDouble}
 use Rattle.scalars.specs.Scalars.{markAt, scalarOf}
 use Rattle.kinds.specs.declared.Scalar.{Scalar}
 use Rattle.kinds.specs.declared.Scalar.the-variants.{Byte, Short, Int, Long, Boolean, Char8, Char16}

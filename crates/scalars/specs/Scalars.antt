@@ -9,7 +9,8 @@ use Rattle.sim0mq.specs.Answer.{Answer, fine, refused, _>>=_, byte, big}
 use Rattle.sim0mq.specs.Codes.{countsOf, markingOf, widthOf}
 use Rattle.sim0mq.specs.Field.{Field}
 use Rattle.sim0mq.specs.Mark.{Kind, plain, money, moneyPer, unknown, kindOf}
-use Rattle.kinds.specs.Kinds.{twos, floatOf, doubleOf, withFloat, withDouble}
+use Rattle.signed.specs.Signed.{twos}
+use Rattle.kinds.specs.Kinds.{floatOf, doubleOf, withFloat, withDouble}
 use Rattle.asking.specs.Asking.{asked}
 use Rattle.kinds.specs.declared.Mark.{Mark}
 use Rattle.kinds.specs.declared.Scalar.{Scalar}

@@ -14,11 +14,11 @@ use kinds::double_of;
 use kinds::double_with;
 use kinds::float_of;
 use kinds::float_with;
-use kinds::i8_of;
-use kinds::i16_of;
-use kinds::i32_of;
-use kinds::i64_of;
 use numbers::number;
+use signed::i8_of;
+use signed::i16_of;
+use signed::i32_of;
+use signed::i64_of;
 use sim0mq::Refusal;
 
 pub mod answer;

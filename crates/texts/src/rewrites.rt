@@ -6,7 +6,7 @@ use header::Frame;
 use kinds::Scalar;
 use lines::ROOM;
 use lines::part;
-use lines::signed::long_of;
+use lines::wholes::long_of;
 use numbers::number;
 use pieces::put;
 use reading::Reading;

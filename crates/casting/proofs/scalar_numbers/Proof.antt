@@ -6,7 +6,7 @@ use mathlib.Core.Path.{ap, _∙_}
 use mathlib.Core.List.{_∷_}
 use mir.Syntax.{w8, w16, w32, w64}
 use mir.ValLaws.{toZ-ofZ}
-use Rattle.kinds.proofs.Signed.{widened}
+use Rattle.signed.proofs.Signed.{widened}
 use Rattle.puts.proofs.SignedLaws.{wider}
 use Rattle.casting.specs.Casting.{withNone, scalarNumbers}
 use Rattle.casting.proofs.ScalarLaws.{signed-numbers, marked-numbers, truth-number}

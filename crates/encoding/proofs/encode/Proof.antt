@@ -6,7 +6,7 @@ use mir.Syntax.{w8, w16, w32, w64}
 use mir.ValLaws.{toZ-ofZ}
 use Rattle.scalars.specs.Bytes.{markBytes, scalarBytes}
 use Rattle.kinds.specs.declared.Scalar.the-variants.{Byte, Short, Int, Long, Boolean, Char8, Char16, NotNumber}
-use Rattle.kinds.proofs.Signed.{widened}
+use Rattle.signed.proofs.Signed.{widened}
 use Rattle.encoding.specs.Scalars.{codeOf, scalarText, writable}
 use Rattle.puts.proofs.SignedLaws.{wider}
 use Rattle.encoding.proofs.EncodeCases.{unwritable, written, signed-written, truth-text}

@@ -1,7 +1,7 @@
 -- A number not below 0 is its own bits; the bits of one below 0 are those of -1 less it, taken from the width's largest number.
 use native.Mathlib.Omega.{arith}
 use mir.Syntax.{w64}
-use Rattle.kinds.proofs.Signed.{up, down, down-fits}
+use Rattle.signed.proofs.Signed.{up, down, down-fits}
 use Rattle.puts.proofs.SignedLaws.{bits-up, bits-down, bits-none}
 use Rattle.puts.proofs.bits.Statement.{statement}
 use Rattle.puts.proofs.bits.Tie as tie

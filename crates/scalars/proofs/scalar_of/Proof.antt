@@ -10,7 +10,8 @@ use Rattle.sim0mq.specs.Answer.{fine}
 use Rattle.sim0mq.specs.Codes.{countsOf, widthOf}
 use Rattle.kinds.specs.declared.Scalar.{Scalar}
 use Rattle.kinds.specs.declared.Scalar.the-variants.{Byte, Short, Int, Long}
-use Rattle.kinds.specs.Kinds.{twos, floatOf, doubleOf}
+use Rattle.signed.specs.Signed.{twos}
+use Rattle.kinds.specs.Kinds.{floatOf, doubleOf}
 use Rattle.scalars.specs.Scalars.{scalarOf}
 use Rattle.scalars.proofs.ScalarCases.{told, by-code}
 use Rattle.scalars.proofs.scalar_of.Statement.{statement}

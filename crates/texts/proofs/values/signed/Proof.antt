@@ -2,7 +2,7 @@
 use borrow.Author.Needs.{needs}
 use native.Mathlib.Omega.{arith}
 use mir.Syntax.{w64}
-use Rattle.kinds.proofs.Signed.{up, down, down-fits}
+use Rattle.signed.proofs.Signed.{up, down, down-fits}
 use Rattle.texts.proofs.values.signed.Statement.{statement}
 use Rattle.texts.proofs.values.signed.Tie as tie
 

@@ -3,7 +3,7 @@ use borrow.Author.Needs.{needs}
 use native.Mathlib.Omega.{arith}
 use mir.Syntax.{w8, w16, w32, w64}
 use mir.Val.{SFits}
-use Rattle.kinds.proofs.Signed.{widened}
+use Rattle.signed.proofs.Signed.{widened}
 use Rattle.texts.proofs.values.text.Statement.{statement}
 use Rattle.texts.proofs.values.text.Tie as tie
 

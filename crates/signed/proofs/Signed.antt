@@ -11,7 +11,7 @@ use mir.Syntax.{Width, w8, w16, w32, w64, w128}
 use mir.Val.{SFits, Fits, toZ, ofZ, hbits, bits}
 use mir.ValLaws.{toZ-pos, toZ-ofZ}
 use mir.Facts.{fits-natAbs}
-use Rattle.kinds.specs.Kinds.{twos}
+use Rattle.signed.specs.Signed.{twos}
 
 minus-one : (y : ℕ) → negsuc 0 -ℤ pos y ≡ negsuc y
 minus-one zero = refl
