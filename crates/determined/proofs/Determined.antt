@@ -25,8 +25,8 @@ use Rattle.fields.proofs.outline.Reads as outline
 use Rattle.payload.proofs.wide.Reads as kept-wide
 use Rattle.marks.proofs.mark.Reads as mark
 use Rattle.marks.proofs.marks.Reads as marks
-use Rattle.marks.proofs.currency_taken.Reads as currency-taken
-use Rattle.marks.proofs.display_taken.Reads as display-taken
+use Rattle.displays.proofs.currency_taken.Reads as currency-taken
+use Rattle.displays.proofs.display_taken.Reads as display-taken
 use Rattle.numbers.proofs.wide.Reads as wide
 use Rattle.numbers.proofs.number.Reads as number
 use Rattle.numbers.proofs.count.Reads as count
@@ -174,18 +174,19 @@ put-text-out = equated put-text.Post (λ κs z e. now (e .1 .0)) _ (λ κs a z e
 pub clear-out : Determines clear.Post (λ κs z e. now (e .0))
 clear-out = equated clear.Post (λ κs z e. now (e .0)) _ (λ κs a z e p. p)
 
+-- The calls of crate displays.
+pub currency-taken-result : Determines currency-taken.Post (λ κs z e. z)
+currency-taken-result = equated currency-taken.Post (λ κs z e. z) _ (λ κs a z e p. p)
+
+pub display-taken-result : Determines display-taken.Post (λ κs z e. z)
+display-taken-result = equated display-taken.Post (λ κs z e. z) _ (λ κs a z e p. p)
+
 -- The calls of crate marks.
 pub mark-result : Determines mark.Post (λ κs z e. z)
 mark-result = determined mark.Post (λ κs z e. z) (λ κs. judged) (λ κs. judged-apart) _ (λ κs a z e p. p)
 
 pub marks-result : Determines marks.Post (λ κs z e. z)
 marks-result = determined marks.Post (λ κs z e. z) (λ κs. judged) (λ κs. judged-apart) _ (λ κs a z e p. p)
-
-pub currency-taken-result : Determines currency-taken.Post (λ κs z e. z)
-currency-taken-result = equated currency-taken.Post (λ κs z e. z) _ (λ κs a z e p. p)
-
-pub display-taken-result : Determines display-taken.Post (λ κs z e. z)
-display-taken-result = equated display-taken.Post (λ κs z e. z) _ (λ κs a z e p. p)
 
 -- The call of crate heads.
 pub head-result : Determines head.Post (λ κs z e. z)

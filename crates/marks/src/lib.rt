@@ -2,27 +2,14 @@
 ghost use mathlib.Core.Path.{_≡_};
 ghost use Prim.Native.Nat.{_<_, _≤_};
 ghost use lib.ListN.{length};
-ghost use Rattle.sim0mq.specs.Mark.{currencyTaken, displayTaken, currency as currencyOf, display as displayOf, mark as markOf, marks as marksOf};
+ghost use Rattle.sim0mq.specs.Mark.{currency as currencyOf, display as displayOf, mark as markOf, marks as marksOf};
 ghost use Rattle.sim0mq.specs.Views.{judged};
+use displays::currency_taken;
+use displays::display_taken;
 use numbers::number;
 use numbers::wide;
 use sim0mq::Judged;
-use tables::last;
 use tables::per;
-
-// Whether c is a currency code.
-pub fn currency_taken(c: usize) -> bool
-    ensures { λ r. ⌜ r ≡ currencyTaken c ⌝ }
-{
-    if c < 1 { false } else { c <= 1000 }
-}
-
-// Whether d is a display code of unit type t.
-pub fn display_taken(t: usize, d: u8) -> bool
-    ensures { λ r. ⌜ r ≡ displayTaken t d ⌝ }
-{
-    wide(d) <= last(t)
-}
 
 // The currency code at `at`: the place after it.
 fn currency(s: &[u8], at: usize) -> Judged

@@ -1,8 +1,8 @@
 -- The code's two tests are the definition's two.
 use borrow.Author.Tests.{lt-leb, le-leb}
 use Rattle.sim0mq.specs.Mark.{currencyTaken}
-use Rattle.marks.proofs.currency_taken.Statement.{statement}
-use Rattle.marks.proofs.currency_taken.Tie as tie
+use Rattle.displays.proofs.currency_taken.Statement.{statement}
+use Rattle.displays.proofs.currency_taken.Tie as tie
 
 returns : tie.Need-returns
 unfolding currencyTaken

@@ -4,8 +4,8 @@ use mathlib.Core.Path.{ap₂}
 use borrow.Author.Needs.{needs}
 use lib.Dec.{leb}
 use Rattle.sim0mq.specs.Mark.{displayTaken}
-use Rattle.marks.proofs.display_taken.Statement.{statement}
-use Rattle.marks.proofs.display_taken.Tie as tie
+use Rattle.displays.proofs.display_taken.Statement.{statement}
+use Rattle.displays.proofs.display_taken.Tie as tie
 
 wide-requires : tie.Need-wide-requires
 wide-requires c κs = search needs
