@@ -7,8 +7,8 @@ ghost use Rattle.asking.specs.Asking.{asked, viewOf, fieldIn};
 use fields::Field;
 use fields::Fielded;
 use header::Said;
+use numbers::wide16;
 use payload::payload;
-use payload::wide;
 use reading::Lent;
 use reading::opened;
 use sim0mq::Judged;
@@ -20,14 +20,14 @@ fn field_in(row: &[u16]) -> Field
     requires { ⌜ (length (now row) ≡ 5) × (getD (now row) 0 0 ≤ 32) ⌝ }
     ensures { λ r. ⌜ seen r ≡ fieldIn (now (row .entry)) ⌝ }
 {
-    let code = wide(row[0]);
-    let size = wide(row[3]);
+    let code = wide16(row[0]);
+    let size = wide16(row[3]);
     Field {
         code,
-        place: wide(row[1]),
-        first: wide(row[2]),
+        place: wide16(row[1]),
+        first: wide16(row[2]),
         size,
-        marked: wide(row[4]),
+        marked: wide16(row[4]),
         values: size / width(code),
     }
 }

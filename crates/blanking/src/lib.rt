@@ -8,8 +8,8 @@ ghost use Rattle.sim0mq.specs.Table.{placed};
 use buffers::clear;
 use buffers::put;
 use header::Said;
+use numbers::wide16;
 use payload::payload;
-use payload::wide;
 use reading::Lent;
 use reading::opened;
 use sim0mq::Judged;
@@ -23,8 +23,8 @@ fn blank_fields(message: &[u8], next: usize, n: usize, kept: &[u16], out: &mut [
     let mut at = next;
     let mut k: usize = 0;
     while k < n {
-        let first = wide(kept[5 * k + 2]);
-        let size = wide(kept[5 * k + 3]);
+        let first = wide16(kept[5 * k + 2]);
+        let size = wide16(kept[5 * k + 3]);
         put(&message[at..first], out, at);
         clear(out, first, size);
         at = first + size;

@@ -22,12 +22,12 @@ use Rattle.heads.proofs.head.Reads as head
 use Rattle.values.proofs.size.Reads as size
 use Rattle.values.proofs.values.Reads as values
 use Rattle.fields.proofs.outline.Reads as outline
-use Rattle.payload.proofs.wide.Reads as kept-wide
 use Rattle.marks.proofs.mark.Reads as mark
 use Rattle.marks.proofs.marks.Reads as marks
 use Rattle.displays.proofs.currency_taken.Reads as currency-taken
 use Rattle.displays.proofs.display_taken.Reads as display-taken
 use Rattle.numbers.proofs.wide.Reads as wide
+use Rattle.numbers.proofs.wide16.Reads as wide16
 use Rattle.numbers.proofs.number.Reads as number
 use Rattle.numbers.proofs.count.Reads as count
 use Rattle.buffers.proofs.put.Reads as put-text
@@ -161,6 +161,9 @@ per-result = equated per.Post (λ κs z e. z) _ (λ κs a z e p. p)
 pub wide-result : Determines wide.Post (λ κs z e. z)
 wide-result = equated wide.Post (λ κs z e. z) _ (λ κs a z e p. p .0)
 
+pub wide16-result : Determines wide16.Post (λ κs z e. z)
+wide16-result = equated wide16.Post (λ κs z e. z) _ (λ κs a z e p. p .0)
+
 pub number-result : Determines number.Post (λ κs z e. z)
 number-result = equated number.Post (λ κs z e. z) _ (λ κs a z e p. p .0)
 
@@ -203,15 +206,12 @@ values-result = determined values.Post (λ κs z e. z) (λ κs. judged) (λ κs.
 pub outline-result : Determines outline.Post (λ κs z e. z)
 outline-result = determined outline.Post (λ κs z e. z) (λ κs. fielded) (λ κs. fielded-apart) _ (λ κs a z e p. p)
 
--- The calls of crate payload.
+-- The call of crate payload.
 pub payload-result : Determines payload.Post (λ κs z e. z)
 payload-result = determined payload.Post (λ κs z e. z) (λ κs. judged) (λ κs. judged-apart) _ (λ κs a z e p. p .0 .0)
 
 pub payload-kept : Determines payload.Post (λ κs z e. now (e .1 .1 .1 .1 .0))
 payload-kept = equated payload.Post (λ κs z e. now (e .1 .1 .1 .1 .0)) _ (λ κs a z e p. p .1)
-
-pub kept-wide-result : Determines kept-wide.Post (λ κs z e. z)
-kept-wide-result = equated kept-wide.Post (λ κs z e. z) _ (λ κs a z e p. p .0)
 
 -- The call of crate magic.
 pub magic-result : Determines magic.Post (λ κs z e. z)

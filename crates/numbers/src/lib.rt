@@ -13,6 +13,13 @@ pub fn wide(x: u8) -> usize
     x as usize
 }
 
+// A number of sixteen bits, as wide as a place.
+pub fn wide16(n: u16) -> usize
+    ensures { λ r. ⌜ (r ≡ n) × (r < 65536) ⌝ }
+{
+    n as usize
+}
+
 // The number that the n bytes from `at` on write, where they are there and no more than eight; else 0.
 pub fn number(s: &[u8], at: usize, n: usize) -> usize
     ensures { λ r. ⌜ (r ≡ numberAt (now (s .entry)) at n) × (r < 256 ^ n) ⌝ }

@@ -110,13 +110,6 @@ fn part(s: &[u8], base: usize, n: usize, k: usize, many: usize, kept: &mut [u16]
     }
 }
 
-// A kept number, as wide as a place.
-pub fn wide(x: u16) -> usize
-    ensures { λ r. ⌜ (r ≡ x) × (r < 65536) ⌝ }
-{
-    x as usize
-}
-
 // How many rows of five numbers are kept of a message of so many bytes, where there is room for so many numbers.
 fn rows_in(bytes: usize, numbers: usize) -> usize
     ensures { λ r. ⌜ r ≡ rowsIn bytes numbers ⌝ }

@@ -14,9 +14,9 @@ ghost use Rattle.reading.specs.Rows.{Fillable, filled};
 use header::Frame;
 use header::Said;
 use header::header;
+use numbers::wide16;
 use payload::LIMIT;
 use payload::payload;
-use payload::wide;
 use sim0mq::Judged;
 use sim0mq::Refusal;
 
@@ -103,7 +103,7 @@ fn copied(kept: &[u16], n: usize, table: &mut [u32])
 {
     let mut i: usize = 0;
     while i < n {
-        table[i] = wide(kept[i]) as u32;
+        table[i] = wide16(kept[i]) as u32;
         i += 1;
     }
 }

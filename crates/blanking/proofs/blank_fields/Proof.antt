@@ -21,69 +21,69 @@ abbrev μ-loop : tie.MeasureT-loop
 loop-holds : tie.Need-loop-holds Inv-loop μ-loop
 loop-holds c = (left-start _ _ _ _ _ (c .before .before .before .pre), refl)
 
-mul-wide : tie.Need-mul-wide Inv-loop μ-loop
-mul-wide c =
+mul-wide16 : tie.Need-mul-wide16 Inv-loop μ-loop
+mul-wide16 c =
     let kept = left-row _ _ _ _ _ _ _ (c .before .loop .inv .0) (c .loop-test .taken) .2 in
     omega arith
 
-add-wide : tie.Need-add-wide Inv-loop μ-loop
-add-wide c =
+add-wide16 : tie.Need-add-wide16 Inv-loop μ-loop
+add-wide16 c =
     let kept = left-row _ _ _ _ _ _ _ (c .before .loop .inv .0) (c .loop-test .taken) .2 in
     omega arith
 
-mul-wide-2 : tie.Need-mul-wide-2 Inv-loop μ-loop
-mul-wide-2 c =
+mul-wide16-2 : tie.Need-mul-wide16-2 Inv-loop μ-loop
+mul-wide16-2 c =
     let kept = left-row _ _ _ _ _ _ _ (c .before .loop .inv .0) (c .loop-test .taken) .2 in
     omega arith
 
-shared-slice-read-wide : tie.Need-shared-slice-read-wide Inv-loop μ-loop
-shared-slice-read-wide c =
+shared-slice-read-wide16 : tie.Need-shared-slice-read-wide16 Inv-loop μ-loop
+shared-slice-read-wide16 c =
     let kept = left-row _ _ _ _ _ _ _ (c .before .before .loop .inv .0) (c .before .loop-test .taken) .2 in
     omega arith
 
-wide-requires : tie.Need-wide-requires Inv-loop μ-loop
-wide-requires c κs = search needs
+wide16-requires : tie.Need-wide16-requires Inv-loop μ-loop
+wide16-requires c κs = search needs
 
-mul-wide-3 : tie.Need-mul-wide-3 Inv-loop μ-loop
-mul-wide-3 c =
+mul-wide16-3 : tie.Need-mul-wide16-3 Inv-loop μ-loop
+mul-wide16-3 c =
     let kept = left-row _ _ _ _ _ _ _ (c .before .before .before .loop .inv .0) (c .before .before .loop-test .taken) .2 in
     omega arith
 
-add-wide-2 : tie.Need-add-wide-2 Inv-loop μ-loop
-add-wide-2 c =
+add-wide16-2 : tie.Need-add-wide16-2 Inv-loop μ-loop
+add-wide16-2 c =
     let kept = left-row _ _ _ _ _ _ _ (c .before .before .before .loop .inv .0) (c .before .before .loop-test .taken) .2 in
     omega arith
 
-mul-wide-4 : tie.Need-mul-wide-4 Inv-loop μ-loop
-mul-wide-4 c =
+mul-wide16-4 : tie.Need-mul-wide16-4 Inv-loop μ-loop
+mul-wide16-4 c =
     let kept = left-row _ _ _ _ _ _ _ (c .before .before .before .loop .inv .0) (c .before .before .loop-test .taken) .2 in
     omega arith
 
-shared-slice-read-wide-2 : tie.Need-shared-slice-read-wide-2 Inv-loop μ-loop
-shared-slice-read-wide-2 c =
+shared-slice-read-wide16-2 : tie.Need-shared-slice-read-wide16-2 Inv-loop μ-loop
+shared-slice-read-wide16-2 c =
     let kept = left-row _ _ _ _ _ _ _ (c .before .before .before .before .loop .inv .0) (c .before .before .before .loop-test .taken) .2 in
     omega arith
 
-wide-requires-2 : tie.Need-wide-requires-2 Inv-loop μ-loop
-wide-requires-2 c κs = search needs
+wide16-requires-2 : tie.Need-wide16-requires-2 Inv-loop μ-loop
+wide16-requires-2 c κs = search needs
 
 sub-put : tie.Need-sub-put Inv-loop μ-loop
 sub-put c =
-    let stands = left-stands _ _ _ _ _ _ _ (c .before .before .before .before .before .loop .inv .0) (c .before .before .before .before .loop-test .taken) _ _ (c .before .before .wide .ensures .0) (c .wide2 .ensures .0) in
+    let stands = left-stands _ _ _ _ _ _ _ (c .before .before .before .before .before .loop .inv .0) (c .before .before .before .before .loop-test .taken) _ _ (c .before .before .wide16 .ensures .0) (c .wide162 .ensures .0) in
     let before = stands .0 in
     let end = stands .1 in
     omega arith
 
 part-put-start : tie.Need-part-put-start Inv-loop μ-loop
 part-put-start c =
-    let stands = left-stands _ _ _ _ _ _ _ (c .before .before .before .before .before .loop .inv .0) (c .before .before .before .before .loop-test .taken) _ _ (c .before .before .wide .ensures .0) (c .wide2 .ensures .0) in
+    let stands = left-stands _ _ _ _ _ _ _ (c .before .before .before .before .before .loop .inv .0) (c .before .before .before .before .loop-test .taken) _ _ (c .before .before .wide16 .ensures .0) (c .wide162 .ensures .0) in
     let before = stands .0 in
     let end = stands .1 in
     omega arith
 
 part-put-end : tie.Need-part-put-end Inv-loop μ-loop
 part-put-end c =
-    let stands = left-stands _ _ _ _ _ _ _ (c .before .before .before .before .before .loop .inv .0) (c .before .before .before .before .loop-test .taken) _ _ (c .before .before .wide .ensures .0) (c .wide2 .ensures .0) in
+    let stands = left-stands _ _ _ _ _ _ _ (c .before .before .before .before .before .loop .inv .0) (c .before .before .before .before .loop-test .taken) _ _ (c .before .before .wide16 .ensures .0) (c .wide162 .ensures .0) in
     let before = stands .0 in
     let end = stands .1 in
     omega arith
@@ -96,7 +96,7 @@ clear-requires c κs = search needs
 
 add-at : tie.Need-add-at Inv-loop μ-loop
 add-at c =
-    let end = left-stands _ _ _ _ _ _ _ (c .before .before .before .before .before .before .before .before .before .before .before .before .before .before .loop .inv .0) (c .before .before .before .before .before .before .before .before .before .before .before .before .before .loop-test .taken) _ _ (c .before .before .before .before .before .before .before .before .before .before .before .wide .ensures .0) (c .before .before .before .before .before .before .before .before .before .wide2 .ensures .0) .1 in
+    let end = left-stands _ _ _ _ _ _ _ (c .before .before .before .before .before .before .before .before .before .before .before .before .before .before .loop .inv .0) (c .before .before .before .before .before .before .before .before .before .before .before .before .before .loop-test .taken) _ _ (c .before .before .before .before .before .before .before .before .before .before .before .wide16 .ensures .0) (c .before .before .before .before .before .before .before .before .before .wide162 .ensures .0) .1 in
     omega arith
 
 add-k : tie.Need-add-k Inv-loop μ-loop
@@ -107,8 +107,8 @@ loop-less c = search needs
 
 loop-again : tie.Need-loop-again Inv-loop μ-loop
 loop-again c =
-    let first = c .before .before .before .before .before .before .before .before .before .before .before .wide .ensures .0 in
-    let size = c .before .before .before .before .before .before .before .before .before .wide2 .ensures .0 in
+    let first = c .before .before .before .before .before .before .before .before .before .before .before .wide16 .ensures .0 in
+    let size = c .before .before .before .before .before .before .before .before .before .wide162 .ensures .0 in
     let inv = c .before .before .before .before .before .before .before .before .before .before .before .before .before .before .loop .inv in
     (left-turn _ _ _ _ _ _ _ (inv .0) (c .before .before .before .before .before .before .before .before .before .before .before .before .before .loop-test .taken) _ _ (c .before .before .before .before .before .before .put .last .1 .0) (c .before .before .clear .last .0) first size (c .before .before .before .before .before .before .put .ensures) (c .before .before .clear .ensures) (omega arith), omega arith)
 
@@ -125,16 +125,16 @@ blank-fields-spec =
     Inv-loop
     μ-loop
     loop-holds
-    mul-wide
-    add-wide
-    mul-wide-2
-    shared-slice-read-wide
-    wide-requires
-    mul-wide-3
-    add-wide-2
-    mul-wide-4
-    shared-slice-read-wide-2
-    wide-requires-2
+    mul-wide16
+    add-wide16
+    mul-wide16-2
+    shared-slice-read-wide16
+    wide16-requires
+    mul-wide16-3
+    add-wide16-2
+    mul-wide16-4
+    shared-slice-read-wide16-2
+    wide16-requires-2
     sub-put
     part-put-start
     part-put-end

@@ -21,14 +21,14 @@ abbrev μ-loop : tie.MeasureT-loop
 loop-holds : tie.Need-loop-holds Inv-loop μ-loop
 loop-holds c = (omega arith, refl, paste-zero (c .before .before .args .table .now) 0 (c .before .before .args .kept .now))
 
-mul-wide : tie.Need-mul-wide Inv-loop μ-loop
-mul-wide c = search needs
+mul-wide16 : tie.Need-mul-wide16 Inv-loop μ-loop
+mul-wide16 c = search needs
 
-shared-slice-read-wide : tie.Need-shared-slice-read-wide Inv-loop μ-loop
-shared-slice-read-wide c = search needs
+shared-slice-read-wide16 : tie.Need-shared-slice-read-wide16 Inv-loop μ-loop
+shared-slice-read-wide16 c = search needs
 
-wide-requires : tie.Need-wide-requires Inv-loop μ-loop
-wide-requires c κs = search needs
+wide16-requires : tie.Need-wide16-requires Inv-loop μ-loop
+wide16-requires c κs = search needs
 
 cast-table : tie.Need-cast-table Inv-loop μ-loop
 cast-table c = search needs
@@ -55,7 +55,7 @@ loop-again c =
     let step = paste-suc d 0 s i 0 (omega arith) (omega arith) in (
       omega arith,
       simp length-set (inv .1),
-      rw (inv .2, add-one i, c .wide .ensures .0) (ap (λ (k : ℕ). set (paste d 0 s i) k (getD s i 0)) (sym (zero-add i)) ∙ step),
+      rw (inv .2, add-one i, c .wide16 .ensures .0) (ap (λ (k : ℕ). set (paste d 0 s i) k (getD s i 0)) (sym (zero-add i)) ∙ step),
     )
 
 same-length : tie.Need-same-length Inv-loop μ-loop
@@ -76,9 +76,9 @@ copied-spec =
     Inv-loop
     μ-loop
     loop-holds
-    mul-wide
-    shared-slice-read-wide
-    wide-requires
+    mul-wide16
+    shared-slice-read-wide16
+    wide16-requires
     cast-table
     mul-table
     slice-write-table
