@@ -16,10 +16,11 @@ use Rattle.sim0mq.specs.Table.{row as rowOf}
 use Rattle.sim0mq.specs.Message.{noTable}
 use Rattle.sim0mq.proofs.Answers.{fine-eq, not-fine}
 use Rattle.values.proofs.ValueCases.{width-positive}
+use Rattle.parts.specs.Kept.{keptOne, keptAll, rowsIn}
 use Rattle.payload.specs.Parts.{payloadSteps}
-use Rattle.payload.specs.Kept.{keptOne, keptAll, rowsIn, keptOf}
-use Rattle.payload.proofs.PayloadCases.{Goes, field-goes}
-use Rattle.payload.proofs.KeptCases.{rows-within, kept-before, kept-here, kept-full}
+use Rattle.payload.specs.Kept.{keptOf}
+use Rattle.parts.proofs.PartCases.{Goes, field-goes}
+use Rattle.parts.proofs.KeptCases.{rows-within, kept-before, kept-here, kept-full}
 use Rattle.payload.proofs.KeptLaws.{payload-many, front-accepted, taken-more}
 use Rattle.reading.specs.Answers.{opening}
 use Rattle.reading.proofs.AnswerCases.{reading-closed, open-within, open-refused, open-accepted}

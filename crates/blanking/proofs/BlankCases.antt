@@ -21,7 +21,8 @@ use Rattle.sim0mq.proofs.Demand3.{copy-is-blank}
 use Rattle.buffers.specs.Placing.{putIn, clearedIn}
 use Rattle.payload.specs.Parts.{payloadSteps}
 use Rattle.payload.specs.Kept.{keptOf}
-use Rattle.payload.proofs.PayloadCases.{field-goes, at-stopped, at-taken}
+use Rattle.parts.proofs.PartCases.{field-goes}
+use Rattle.payload.proofs.PayloadCases.{at-stopped, at-taken}
 use Rattle.payload.proofs.KeptLaws.{payload-many, taken-more, taken-none, kept-rows}
 use Rattle.reading.specs.Answers.{opening}
 use Rattle.reading.proofs.AnswerCases.{reading-closed, open-within, open-reading}

@@ -17,6 +17,7 @@ use Rattle.scalars.specs.Scalars.{valued}
 use Rattle.scalars.specs.declared.answer.Value.{Value}
 use Rattle.scalars.specs.declared.answer.Value.the-variants.{Is, Refused as Value·Refused}
 use Rattle.sim0mq.proofs.refuse.Reads as sim0mq-refuse
+use Rattle.parts.proofs.part.Reads as part
 use Rattle.payload.proofs.payload.Reads as payload
 use Rattle.heads.proofs.head.Reads as head
 use Rattle.values.proofs.size.Reads as size
@@ -205,6 +206,13 @@ values-result = determined values.Post (λ κs z e. z) (λ κs. judged) (λ κs.
 -- The call of crate fields.
 pub outline-result : Determines outline.Post (λ κs z e. z)
 outline-result = determined outline.Post (λ κs z e. z) (λ κs. fielded) (λ κs. fielded-apart) _ (λ κs a z e p. p)
+
+-- The call of crate parts.
+pub part-result : Determines part.Post (λ κs z e. z)
+part-result = determined part.Post (λ κs z e. z) (λ κs. judged) (λ κs. judged-apart) _ (λ κs a z e p. p .0 .0)
+
+pub part-kept : Determines part.Post (λ κs z e. now (e .1 .1 .1 .1 .0))
+part-kept = equated part.Post (λ κs z e. now (e .1 .1 .1 .1 .0)) _ (λ κs a z e p. p .1)
 
 -- The call of crate payload.
 pub payload-result : Determines payload.Post (λ κs z e. z)

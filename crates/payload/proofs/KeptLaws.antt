@@ -1,5 +1,5 @@
 -- Of an accepted payload all that was asked for is kept: its fields are those before the first fault, and rows stored one after the other are all stored.
-use Prim.Native.Nat.{ℕ, zero, suc, _+_, _*_, _-_, _/_, _≤_, _<_, zero-le}
+use Prim.Native.Nat.{ℕ, zero, suc, _+_, _*_, _-_, _/_, _≤_, zero-le}
 use mathlib.Core.Path.{_≡_, refl, ap, sym, _∙_}
 use mathlib.Core.Bool.{Bool, true, false}
 use mathlib.Core.List.{List, [], _∷_, _++_, append-assoc, map}
@@ -14,8 +14,9 @@ use Rattle.sim0mq.specs.Payload.{payloadFrom, payload, moved}
 use Rattle.sim0mq.specs.Table.{row, rows, stored}
 use Rattle.sim0mq.proofs.Answers.{bind-fine, guarded, fine-eq}
 use borrow.Author.Tests.{leb-true}
-use Rattle.payload.specs.Kept.{front, keptOne, keptAll, rowsIn, keptOf}
-use Rattle.payload.proofs.KeptCases.{rows-within, front-more, kept-here, kept-long}
+use Rattle.parts.specs.Kept.{front, keptOne, keptAll, rowsIn}
+use Rattle.payload.specs.Kept.{keptOf}
+use Rattle.parts.proofs.KeptCases.{rows-within, front-more, kept-here, kept-long}
 
 -- the table with these numbers from place i on
 unfoldable storedFrom : List ℕ → ℕ → List ℕ → List ℕ

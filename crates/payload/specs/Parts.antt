@@ -1,18 +1,9 @@
 -- What the payload's reader answers, over the definitions of the format.
-use Prim.Native.Nat.{ℕ, _+_}
+use Prim.Native.Nat.{ℕ}
 use mathlib.Core.List.{List}
 use lib.ListN.{drop}
 use Rattle.sim0mq.specs.Answer.{Answer, fine, _>>=_, need, partAt}
-use Rattle.sim0mq.specs.Payload.{payloadFrom, payload, steps}
-
--- The steps of n fields from `at` on, after k steps; and those of a part.
-unfoldable pub stepsFrom : List ℕ → ℕ → ℕ → ℕ → Answer ℕ
-stepsFrom s n at k = do
-  fs ← payloadFrom s n at
-  fine (k + steps fs)
-
-unfoldable pub partSteps : List ℕ → ℕ → Answer ℕ
-partSteps s n = stepsFrom s n 0 0
+use Rattle.sim0mq.specs.Payload.{payload, steps}
 
 -- The steps of the payload of n fields that begins at `next` of the message s, with places in the message: the bytes reach up to it (1), and what follows is
 -- judged as a part by itself.

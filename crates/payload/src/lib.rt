@@ -1,124 +1,14 @@
 // The payload: a part of a message that is read by itself.
 ghost use mathlib.Core.Path.{_≡_};
-ghost use mathlib.Core.List.{map};
-ghost use Prim.Native.Nat.{_+_, _*_, _<_, _≤_};
+ghost use Prim.Native.Nat.{_+_};
 ghost use lib.ListN.{length};
-ghost use lib.Seq.{sets};
-ghost use Rattle.sim0mq.specs.Payload.{moved};
-ghost use Rattle.sim0mq.specs.Table.{row};
 ghost use Rattle.sim0mq.specs.Views.{judged};
 ghost use Rattle.numbers.specs.Numbers.{Below};
-ghost use Rattle.fields.specs.Items.{seen};
-ghost use Rattle.payload.specs.Parts.{partSteps, payloadSteps};
-ghost use Rattle.payload.specs.Kept.{Small, front, keptOne, keptAll, rowsIn, keptOf};
-use fields::Field;
-use heads::Asked;
-use heads::Headed;
-use heads::head;
-use marks::mark;
+ghost use Rattle.payload.specs.Parts.{payloadSteps};
+ghost use Rattle.payload.specs.Kept.{keptOf};
+use parts::part;
 use sim0mq::Judged;
 use sim0mq::Refusal;
-use values::values;
-
-// The most bytes that a message has.
-pub const LIMIT: usize = 32768;
-
-// Stores the five numbers of a field of a part that begins at place `base`, from place i on.
-fn store(kept: &mut [u16], i: usize, base: usize, f: Field)
-    requires { ⌜ (i + 5 ≤ length (now kept)) × Small base (seen f) ⌝ }
-    ensures { λ _. ⌜ now (kept .exit) ≡ sets (now (kept .entry)) i (row (moved base (seen f))) ⌝ }
-{
-    kept[i] = f.code as u16;
-    kept[i + 1] = (base + f.place) as u16;
-    kept[i + 2] = (base + f.first) as u16;
-    kept[i + 3] = f.size as u16;
-    kept[i + 4] = f.marked as u16;
-}
-
-// What is known of the field at `at` that has this head, with so many value bytes from `first` on.
-fn found(h: Asked, at: usize, first: usize, size: usize) -> Field
-    ensures { λ r. ⌜ seen r ≡ record { code = h .code; place = at; first = first; size = size; marked = h .marked; values = h .values } ⌝ }
-{
-    Field {
-        code: h.code,
-        place: at,
-        first,
-        size,
-        marked: h.marked,
-        values: h.values,
-    }
-}
-
-// Keeps field i of a part that begins at place `base`, if it is not before field k and there is a row for it.
-fn keep(kept: &mut [u16], many: usize, k: usize, i: usize, base: usize, f: Field)
-    requires { ⌜ (5 * many ≤ length (now kept)) × (0 < many → Small base (seen f)) ⌝ }
-    ensures { λ _. ⌜ now (kept .exit) ≡ keptOne many k i (moved base (seen f)) (now (kept .entry)) ⌝ }
-{
-    if i < k {
-        return;
-    }
-    let j = i - k;
-    if j < many {
-        store(kept, 5 * j, base, f);
-    }
-}
-
-// The part s of n fields, which begins at place `base` of its message: its steps, one for each field and each mark, and no more than its bytes; or the refusal,
-// with its place in the part. The fields from field k on are kept, where there is a row for them.
-fn part(s: &[u8], base: usize, n: usize, k: usize, many: usize, kept: &mut [u16]) -> Judged
-    requires { ⌜ (5 * many ≤ length (now kept)) × (0 < many → base + length (now s) ≤ 32768) ⌝ }
-    ensures answer { λ r. ⌜ (judged r ≡ partSteps (now (s .entry)) n) × Below (length (now (s .entry)) + 1) r ⌝ }
-    ensures kept { λ _. ⌜ now (kept .exit) ≡ keptAll many k 0 (map (moved base) (front (now (s .entry)) n 0)) (now (kept .entry)) ⌝ }
-{
-    let mut left = n;
-    let mut at: usize = 0;
-    let mut steps: usize = 0;
-    'fields: loop {
-        if left == 0 {
-            if at < s.len() {
-                break 'fields Judged::Refused(Refusal {
-                    number: 13,
-                    place: at,
-                });
-            }
-            break 'fields Judged::Accepted(steps);
-        }
-        match head(s, at) {
-            Headed::Refused(r) => break 'fields Judged::Refused(r),
-            Headed::Accepted(h) => {
-                let mut marked = h.marked;
-                let mut p = h.next;
-                while 0 < marked {
-                    match mark(s, p) {
-                        Judged::Refused(of_mark) => break 'fields Judged::Refused(of_mark),
-                        Judged::Accepted(q) => p = q,
-                    }
-                    marked -= 1;
-                    steps += 1;
-                }
-                match values(s, h.code, h.values, p) {
-                    Judged::Refused(of_values) => break 'fields Judged::Refused(of_values),
-                    Judged::Accepted(e) => {
-                        keep(kept, many, k, n - left, base, found(h, at, p, e - p));
-                        at = e;
-                    }
-                }
-                left -= 1;
-                steps += 1;
-            }
-        }
-    }
-}
-
-// How many rows of five numbers are kept of a message of so many bytes, where there is room for so many numbers.
-fn rows_in(bytes: usize, numbers: usize) -> usize
-    ensures { λ r. ⌜ r ≡ rowsIn bytes numbers ⌝ }
-{
-    if bytes <= LIMIT {
-        return numbers / 5;
-    }
-    0
-}
 
 // The payload of n fields that begins at `next` of the message: its steps, one for each field and each mark, and no more than the message's bytes; or the
 // refusal. The rows of the fields from field k on are kept, as far as there is room, up to the first fault.
@@ -132,8 +22,7 @@ pub fn payload(message: &[u8], next: usize, n: usize, k: usize, kept: &mut [u16]
             place: message.len(),
         });
     }
-    let many = rows_in(message.len(), kept.len());
-    match part(&message[next..], next, n, k, many, kept) {
+    match part(&message[next..], next, n, k, kept) {
         Judged::Refused(r) => Judged::Refused(Refusal {
             number: r.number,
             place: next + r.place,

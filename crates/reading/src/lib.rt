@@ -15,7 +15,7 @@ use header::Frame;
 use header::Said;
 use header::header;
 use numbers::wide16;
-use payload::LIMIT;
+use parts::LIMIT;
 use payload::payload;
 use sim0mq::Judged;
 use sim0mq::Refusal;

@@ -1,24 +1,21 @@
 -- The part is judged by itself, and its refusal moved to its place in the message; past the message's end there is no part.
 use borrow.Author.Needs.{needs}
 use native.Mathlib.Omega.{arith}
-use Prim.Native.Nat.{ℕ, _+_, _-_, _<_}
+use Prim.Native.Nat.{ℕ, _+_, _-_}
 use mathlib.Core.Path.{sym, ap, _∙_, subst}
 use mathlib.Core.List.{List}
 use lib.ListN.{length, take, drop, length-drop}
 use Rattle.sim0mq.specs.Views.{judged}
 use Rattle.sim0mq.specs.declared.Judged.{Judged}
 use Rattle.numbers.specs.Numbers.{Below}
-use Rattle.payload.specs.Parts.{partSteps}
+use Rattle.parts.specs.Parts.{partSteps}
 use Rattle.payload.proofs.PayloadCases.{part-all, refused-within, at-short, at-refused, at-accepted}
-use Rattle.payload.proofs.KeptCases.{rows-room, rows-some, kept-none, kept-part}
+use Rattle.payload.proofs.KeptCases.{kept-none, kept-part}
 use Rattle.payload.proofs.payload.Statement.{statement}
 use Rattle.payload.proofs.payload.Tie as tie
 
 returns : tie.Need-returns
 returns c = ((at-short _ _ _ (c .if1 .taken), tt), kept-none _ _ _ _ _ (c .if1 .taken))
-
-rows-in-requires : tie.Need-rows-in-requires
-rows-in-requires c κs = search needs
 
 sub-part : tie.Need-sub-part
 sub-part c = search needs
@@ -30,28 +27,20 @@ part-part-end : tie.Need-part-part-end
 part-part-end c = search needs
 
 part-requires : tie.Need-part-requires
-part-requires c κs =
-    let s = c .before .before .before .before .before .before .args .message .now in
-    let next = c .before .before .before .before .before .before .args .next in
-    let numbers = length (c .before .before .before .before .before .before .args .kept .now) in
-    let many = c .before .before .rows-in .ensures in
-    let room = rows-room (length s) numbers in
-    let long = length-drop next s in
-    let part = ap length (part-all s next) in
-    (omega arith, λ some. let short = rows-some (length s) numbers (subst (λ (m : ℕ). 0 < m) many some) in omega arith)
+part-requires c κs = search needs
 
 enum-known-r : tie.Need-enum-known-r
 enum-known-r c = search needs
 
-add-t21 : tie.Need-add-t21
-add-t21 c =
-    let s = c .before .before .before .before .before .before .before .before .before .before .before .before .before .args .message .now in
-    let next = c .before .before .before .before .before .before .before .before .before .before .before .before .before .args .next in
+add-t19 : tie.Need-add-t19
+add-t19 c =
+    let s = c .before .before .before .before .before .before .before .before .before .before .before .before .args .message .now in
+    let next = c .before .before .before .before .before .before .before .before .before .before .before .before .args .next in
     let part = part-all s next in
-    let said = sym (ap (λ (l : List ℕ). partSteps l (c .before .before .before .before .before .before .before .before .before .before .before .before .before .args .n)) part) ∙ sym (c .before .before .before .before .before .before .part .ensures .0 .0) ∙ ap judged (c .before .before .r .given .1) in
+    let said = sym (ap (λ (l : List ℕ). partSteps l (c .before .before .before .before .before .before .before .before .before .before .before .before .args .n)) part) ∙ sym (c .before .before .before .before .before .before .part .ensures .0 .0) ∙ ap judged (c .before .before .r .given .1) in
     let within = refused-within _ _ _ _ said in
     let long = length-drop next s in
-    let fits = c .before .before .before .before .before .before .before .before .before .before .before .before .shared-slice-known .given in
+    let fits = c .before .before .before .before .before .before .before .before .before .before .before .shared-slice-known .given in
     omega arith
 
 enum-known-steps : tie.Need-enum-known-steps
@@ -62,38 +51,37 @@ same-length c = search needs
 
 returns-2 : tie.Need-returns-2
 returns-2 c =
-    let s = c .before .before .before .before .before .before .before .before .before .before .before .before .before .args .message .now in
-    let next = c .before .before .before .before .before .before .before .before .before .before .before .before .before .args .next in
+    let s = c .before .before .before .before .before .before .before .before .before .before .before .before .args .message .now in
+    let next = c .before .before .before .before .before .before .before .before .before .before .before .before .args .next in
     let part = part-all s next in
-    let said = sym (ap (λ (l : List ℕ). partSteps l (c .before .before .before .before .before .before .before .before .before .before .before .before .before .args .n)) part) ∙ sym (c .before .before .before .before .before .before .part .ensures .0 .0) ∙ ap judged (c .before .before .r .given .1) in
-    ((at-refused s next _ (omega arith) _ _ said, tt), c .before .before .before .before .before .before .part .ensures .1 ∙ kept-part _ _ _ _ _ _ _ part (c .before .before .before .before .before .before .before .before .before .rows-in .ensures))
+    let said = sym (ap (λ (l : List ℕ). partSteps l (c .before .before .before .before .before .before .before .before .before .before .before .before .args .n)) part) ∙ sym (c .before .before .before .before .before .before .part .ensures .0 .0) ∙ ap judged (c .before .before .r .given .1) in
+    ((at-refused s next _ (omega arith) _ _ said, tt), c .before .before .before .before .before .before .part .ensures .1 ∙ kept-part s _ next _ _ _ (omega arith) part)
 
 same-length-2 : tie.Need-same-length-2
 same-length-2 c = search needs
 
 returns-3 : tie.Need-returns-3
 returns-3 c =
-    let s = c .before .before .before .before .before .before .before .before .before .before .before .before .args .message .now in
-    let next = c .before .before .before .before .before .before .before .before .before .before .before .before .args .next in
+    let s = c .before .before .before .before .before .before .before .before .before .before .before .args .message .now in
+    let next = c .before .before .before .before .before .before .before .before .before .before .before .args .next in
     let part = part-all s next in
-    let said = sym (ap (λ (l : List ℕ). partSteps l (c .before .before .before .before .before .before .before .before .before .before .before .before .args .n)) part) ∙ sym (c .before .before .before .before .before .part .ensures .0 .0) ∙ ap judged (c .before .steps .given .1) in
+    let said = sym (ap (λ (l : List ℕ). partSteps l (c .before .before .before .before .before .before .before .before .before .before .before .args .n)) part) ∙ sym (c .before .before .before .before .before .part .ensures .0 .0) ∙ ap judged (c .before .steps .given .1) in
     let long = length-drop next s in
     let all = ap length part in
     let below = subst (λ (j : Judged). Below (length (take (length s - next) (drop next s)) + 1) j) (c .before .steps .given .1) (c .before .before .before .before .before .part .ensures .0 .1) in
-    ((at-accepted s next _ (omega arith) _ said, omega arith), c .before .before .before .before .before .part .ensures .1 ∙ kept-part _ _ _ _ _ _ _ part (c .before .before .before .before .before .before .before .before .rows-in .ensures))
+    ((at-accepted s next _ (omega arith) _ said, omega arith), c .before .before .before .before .before .part .ensures .1 ∙ kept-part s _ next _ _ _ (omega arith) part)
 
 pub payload-spec : {M : Type 1} → statement M
 payload-spec =
     tie.close
     (tie.spec
     returns
-    rows-in-requires
     sub-part
     part-part-start
     part-part-end
     part-requires
     enum-known-r
-    add-t21
+    add-t19
     enum-known-steps
     same-length
     returns-2

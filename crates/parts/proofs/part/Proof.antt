@@ -2,8 +2,8 @@
 -- field's next mark on. No step lacks a byte, so there are no more steps than bytes.
 use borrow.Author.Needs.{needs}
 use native.Mathlib.Omega.{arith}
-use Prim.Native.Nat.{_+_, _-_, _<_, _≤_}
-use mathlib.Core.Path.{_≡_, refl, sym, ap, _∙_}
+use Prim.Native.Nat.{ℕ, _+_, _-_, _<_, _≤_}
+use mathlib.Core.Path.{_≡_, refl, sym, ap, _∙_, subst}
 use mathlib.Core.List.{map}
 use lib.ListN.{length}
 use Rattle.sim0mq.specs.Answer.{fine}
@@ -11,38 +11,42 @@ use Rattle.sim0mq.specs.Mark.{marks}
 use Rattle.sim0mq.specs.Payload.{moved}
 use Rattle.sim0mq.specs.Views.{judged}
 use Rattle.heads.specs.Heads.{headed}
-use Rattle.payload.specs.Parts.{stepsFrom, partSteps}
-use Rattle.payload.specs.Kept.{front, keptAll}
+use Rattle.parts.specs.Parts.{stepsFrom, partSteps}
+use Rattle.parts.specs.Kept.{front, keptAll, keptPart}
 use Rattle.marks.proofs.MarkCases.{marks-done, marks-more, marks-stop}
-use Rattle.payload.proofs.PayloadCases.{mark-goes, head-goes, values-goes, field-head-stop, field-mark-stop, field-values-stop, field-taken, taken-end, field-small, steps-over, steps-end, steps-stop, steps-more}
-use Rattle.payload.proofs.KeptCases.{kept-start, kept-end, kept-stop, kept-more}
-use Rattle.payload.proofs.part.Statement.{statement}
-use Rattle.payload.proofs.part.Tie as tie
+use Rattle.parts.proofs.PartCases.{mark-goes, head-goes, values-goes, field-head-stop, field-mark-stop, field-values-stop, field-taken, taken-end, field-small, steps-over, steps-end, steps-stop, steps-more}
+use Rattle.parts.proofs.KeptCases.{rows-room, rows-some, kept-start, kept-end, kept-stop, kept-more}
+use Rattle.parts.proofs.part.Statement.{statement}
+use Rattle.parts.proofs.part.Tie as tie
 
 abbrev Inv-loop : tie.InvT-loop
-Inv-loop s base n k many kept left at steps₀ h marked₀ p₀ steps marked p =
+Inv-loop s base n k kept many left at steps₀ h marked₀ p₀ steps marked p =
     (marks s (h .marked) (h .next) ≡ marks s marked p) × (steps + marked ≡ steps₀ + h .marked) × (steps + 1 ≤ p) × (p ≤ length s)
 
 abbrev μ-loop : tie.MeasureT-loop
-μ-loop s base n k many kept left at steps₀ h marked₀ p₀ steps marked p = marked
+μ-loop s base n k kept many left at steps₀ h marked₀ p₀ steps marked p = marked
 
 abbrev Inv-fields : tie.InvT-fields
-Inv-fields s base n k many kept₀ left₀ at₀ steps₀ kept left at steps =
+Inv-fields s base n k kept₀ many left₀ at₀ steps₀ kept left at steps =
     (partSteps s n ≡ stepsFrom s left at steps)
     × (steps ≤ at)
     × (at ≤ length s)
-    × (keptAll many k 0 (map (moved base) (front s n 0)) kept₀ ≡ keptAll many k (n - left) (map (moved base) (front s left at)) kept)
+    × (keptPart s base n k kept₀ ≡ keptAll many k (n - left) (map (moved base) (front s left at)) kept)
     × (left ≤ n)
     × (length kept ≡ length kept₀)
     × (length s < 18446744073709551616)
 
 abbrev μ-fields : tie.MeasureT-fields
-μ-fields s base n k many kept₀ left₀ at₀ steps₀ kept left at steps = left
+μ-fields s base n k kept₀ many left₀ at₀ steps₀ kept left at steps = left
+
+rows-requires : tie.Need-rows-requires Inv-loop μ-loop Inv-fields μ-fields
+rows-requires c κs = search needs
 
 fields-holds : tie.Need-fields-holds Inv-loop μ-loop Inv-fields μ-fields
 unfolding partSteps
 fields-holds c =
-    (refl, omega arith, omega arith, kept-start (c .before .before .args .n) _ _ _ _, omega arith, refl, omega arith)
+    let fits = c .before .before .shared-slice-known .given in
+    (refl, omega arith, omega arith, kept-start _ _ _ _ _ _ (c .rows .ensures), omega arith, refl, omega arith)
 
 head-requires : tie.Need-head-requires Inv-loop μ-loop Inv-fields μ-fields
 head-requires c κs = search needs
@@ -113,10 +117,11 @@ keep-requires c κs =
     let marked = c .before .before .before .before .before .before .before .loop .inv .0 ∙ marks-done _ _ _ (omega arith) in
     let valued = sym (c .before .before .before .before .before .values .ensures) ∙ ap judged (c .before .before .before .e .given .1) in
     let accepted = field-taken _ _ _ headed-as _ marked _ valued in
-    let pre = c .before .before .before .before .before .before .before .before .before .before .before .before .before .before .before .before .pre in
+    let args = c .before .before .before .before .before .before .before .before .before .before .before .before .before .before .before .before .before .args in
+    let many = c .before .before .before .before .before .before .before .before .before .before .before .before .before .before .rows .ensures in
     let long = c .before .before .before .before .before .before .before .before .before .before .before .before .before .fields .inv .5 in
-    let room = pre .0 in
-    (omega arith, λ some. field-small _ _ _ _ (pre .1 some) (accepted ∙ ap fine (sym (c .found .ensures))))
+    let room = rows-room (args .base + length (args .s .now)) (length (args .kept .now)) in
+    (omega arith, λ some. field-small _ _ _ _ (rows-some _ _ (subst (λ (m : ℕ). 0 < m) many some)) (accepted ∙ ap fine (sym (c .found .ensures))))
 
 sub-left : tie.Need-sub-left Inv-loop μ-loop Inv-fields μ-fields
 sub-left c = search needs
@@ -144,7 +149,7 @@ fields-again c =
     let within = g .1 in
     let counted = c .before .before .before .before .before .before .before .before .before .before .loop .inv .1 in
     let less = c .before .before .before .before .before .before .before .before .before .before .loop .inv .2 in
-    let n = c .before .before .before .before .before .before .before .before .before .before .before .before .before .before .before .before .before .before .before .args .n in
+    let n = c .before .before .before .before .before .before .before .before .before .before .before .before .before .before .before .before .before .before .before .before .args .n in
     let left = c .before .before .before .before .before .before .before .before .before .before .before .before .before .before .before .before .fields .left in
     let kept = kept-more _ _ _ _ _ _ _ _ _ (inv .3) (left - 1) (n - (left - 1)) _ _ _ _ (omega arith) accepted ends (omega arith) (c .before .before .before .found .ensures) (c .before .before .keep .ensures) in
     let fewer = inv .4 in
@@ -205,6 +210,7 @@ part-spec =
     μ-loop
     Inv-fields
     μ-fields
+    rows-requires
     fields-holds
     head-requires
     enum-known-r

@@ -2,9 +2,9 @@
 use borrow.Author.Needs.{needs}
 use native.Mathlib.Omega.{arith}
 use mathlib.Core.Path.{_∙_}
-use Rattle.payload.proofs.KeptCases.{kept-before, kept-here, kept-full}
-use Rattle.payload.proofs.keep.Statement.{statement}
-use Rattle.payload.proofs.keep.Tie as tie
+use Rattle.parts.proofs.KeptCases.{kept-before, kept-here, kept-full}
+use Rattle.parts.proofs.keep.Statement.{statement}
+use Rattle.parts.proofs.keep.Tie as tie
 
 returns : tie.Need-returns
 returns c = kept-before _ _ _ _ _ (c .if1 .taken)

@@ -5,8 +5,8 @@ use lib.ListN.{length-set}
 use native.Mathlib.Numerals.{towards-suc}
 use Rattle.sim0mq.specs.Payload.{moved}
 use Rattle.sim0mq.specs.Table.{row}
-use Rattle.payload.proofs.store.Statement.{statement}
-use Rattle.payload.proofs.store.Tie as tie
+use Rattle.parts.proofs.store.Statement.{statement}
+use Rattle.parts.proofs.store.Tie as tie
 
 cast-kept : tie.Need-cast-kept
 cast-kept c = search needs

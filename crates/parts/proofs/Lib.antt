@@ -1,0 +1,2 @@
+pub mod KeptCases
+pub mod PartCases
