@@ -22,8 +22,8 @@ use Rattle.payload.specs.Kept.{keptOf}
 use Rattle.parts.proofs.PartCases.{Goes, field-goes}
 use Rattle.parts.proofs.KeptCases.{rows-within, kept-before, kept-here, kept-full}
 use Rattle.payload.proofs.KeptLaws.{payload-many, front-accepted, taken-more}
-use Rattle.reading.specs.Answers.{opening}
-use Rattle.reading.proofs.AnswerCases.{reading-closed, open-within, open-refused, open-accepted}
+use Rattle.front.specs.Front.{opening}
+use Rattle.front.proofs.FrontCases.{reading-closed, open-within, open-refused, open-accepted}
 use Rattle.asking.specs.Asking.{nth, asked, fieldIn}
 use Rattle.asking.proofs.AskLaws.{asked-refused, asked-nth, nth-past, nth-finds}
 

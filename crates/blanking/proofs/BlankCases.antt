@@ -24,8 +24,8 @@ use Rattle.payload.specs.Kept.{keptOf}
 use Rattle.parts.proofs.PartCases.{field-goes}
 use Rattle.payload.proofs.PayloadCases.{at-stopped, at-taken}
 use Rattle.payload.proofs.KeptLaws.{payload-many, taken-more, taken-none, kept-rows}
-use Rattle.reading.specs.Answers.{opening}
-use Rattle.reading.proofs.AnswerCases.{reading-closed, open-within, open-reading}
+use Rattle.front.specs.Front.{opening}
+use Rattle.front.proofs.FrontCases.{reading-closed, open-within, open-reading}
 use Rattle.blanking.specs.Blanking.{lengthOf, copying, taken, fieldsOf, Copyable, Blankable}
 use Rattle.blanking.proofs.TurnLaws.{placed-past, placed-whole, placed-turn}
 

@@ -7,11 +7,11 @@ ghost use Rattle.blanking.specs.Blanking.{lengthOf, copying, fieldsOf, C
 ghost use Rattle.sim0mq.specs.Table.{placed};
 use buffers::clear;
 use buffers::put;
+use front::Lent;
+use front::opened;
 use header::Said;
 use numbers::wide16;
 use payload::payload;
-use reading::Lent;
-use reading::opened;
 use sim0mq::Judged;
 
 // The copy of an accepted message in `out`, from `next` on, where its payload of n fields begins, whose rows are kept: of each field its code, counts and marks,

@@ -41,7 +41,7 @@ use Rattle.tables.proofs.per.Reads as per
 use Rattle.magic.proofs.magic.Reads as magic
 use Rattle.header.proofs.header.Reads as header
 use Rattle.header.proofs.id.Reads as id
-use Rattle.reading.proofs.opened.Reads as opened
+use Rattle.front.proofs.opened.Reads as opened
 use Rattle.reading.proofs.read.Reads as read
 use Rattle.reading.proofs.judge.Reads as judge
 use Rattle.asking.proofs.ask.Reads as ask

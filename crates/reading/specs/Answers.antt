@@ -1,30 +1,18 @@
 -- What reading answers, over the definitions of the format.
 use Prim.Native.Nat.{ℕ, _+_}
 use mathlib.Core.List.{List, map}
-use lib.ListN.{length, replicate}
-use lib.Dec.{leb}
+use lib.ListN.{length}
 use Rattle.sim0mq.specs.Answer as S
-use Rattle.sim0mq.specs.Answer.{fine, refused, _>>=_, _>>_, guard}
-use Rattle.sim0mq.specs.Header.{Header, header}
+use Rattle.sim0mq.specs.Answer.{fine, refused}
 use Rattle.sim0mq.specs.Message as M
-use Rattle.sim0mq.specs.Message.{limit, enough, stepsOf}
+use Rattle.sim0mq.specs.Message.{stepsOf}
 use Rattle.header.specs.declared.Frame.{Frame}
 use Rattle.header.specs.Frames.{framed}
-use Rattle.reading.specs.declared.Lent.{Lent}
-use Rattle.reading.specs.declared.Lent.the-variants.{NoTable, Table}
+use Rattle.front.specs.Front.{noFrames}
 use Rattle.reading.specs.declared.Found.{Found}
 use Rattle.reading.specs.declared.Reading.{Reading}
 use Rattle.reading.specs.declared.Reading.the-variants.{Accepted, Refused}
 use Rattle.reading.specs.declared.Answer.{Answer}
-
--- What is lent, as the definitions have it.
-abbrev pub lentOf : Lent → M.Lent
-lentOf NoTable = M.noTable
-lentOf (Table r) = M.table r
-
--- Eight frames that are none.
-abbrev pub noFrames : List Frame
-noFrames = replicate 8 (record { place = 0; code = 0 })
 
 -- The message's length, its field count and its steps.
 abbrev pub foundIn : M.Reading → Found
@@ -43,11 +31,3 @@ answered (refused k p) = refusedAt k p
 abbrev pub answerOf : ℕ → List Frame → ℕ → S.Answer ℕ → Answer
 answerOf bytes frames n (fine k) = record { said = Accepted (record { length = bytes; fields = n; steps = 8 + k }); frames = frames }
 answerOf bytes frames n (refused k p) = refusedAt k p
-
--- What stands before the payload: the message's length (8), the header, and the table's room (14).
-unfoldable pub opening : M.Lent → List ℕ → S.Answer Header
-opening lent s = do
-  guard (leb (length s) limit) 8 0
-  h ← header s
-  guard (enough lent (h .fields)) 14 0
-  fine h

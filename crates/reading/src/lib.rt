@@ -2,20 +2,18 @@
 ghost use mathlib.Core.Path.{_≡_};
 ghost use Prim.Native.Nat.{_+_, _≤_};
 ghost use lib.ListN.{length, take};
-ghost use Rattle.sim0mq.specs.Answer.{refused};
 ghost use Rattle.sim0mq.specs.Table.{stored};
 ghost use Rattle.sim0mq.specs.Views.{judged};
 ghost use Rattle.numbers.specs.Numbers.{Below};
 ghost use Rattle.payload.specs.Parts.{payloadSteps};
-ghost use Rattle.header.specs.Frames.{told};
-ghost use Rattle.sim0mq.specs.Message.{noTable, table as tableOf, enough as enoughOf, reading as readingOf, tableAfter};
-ghost use Rattle.reading.specs.Answers.{lentOf, noFrames, answered, refusedAt, answerOf, opening};
+ghost use Rattle.sim0mq.specs.Message.{noTable, table as tableOf, reading as readingOf, tableAfter};
+ghost use Rattle.reading.specs.Answers.{answered, refusedAt, answerOf};
 ghost use Rattle.reading.specs.Rows.{Fillable, filled};
+use front::Lent;
+use front::opened;
 use header::Frame;
 use header::Said;
-use header::header;
 use numbers::wide16;
-use parts::LIMIT;
 use payload::payload;
 use sim0mq::Judged;
 use sim0mq::Refusal;
@@ -38,22 +36,6 @@ pub struct Answer {
     pub frames: [Frame; 8],
 }
 
-// What is lent beside the message: no table, or a table of so many numbers.
-pub enum Lent {
-    NoTable,
-    Table(usize),
-}
-
-// Whether there is room for n fields.
-fn enough(lent: Lent, n: usize) -> bool
-    ensures { λ r. ⌜ r ≡ enoughOf (lentOf lent) n ⌝ }
-{
-    match lent {
-        Lent::NoTable => true,
-        Lent::Table(r) => n <= r / 5,
-    }
-}
-
 // The refusal of this number at this place.
 fn refuse(number: u32, place: usize) -> Answer
     ensures { λ r. ⌜ r ≡ refusedAt number place ⌝ }
@@ -61,38 +43,6 @@ fn refuse(number: u32, place: usize) -> Answer
     Answer {
         said: Reading::Refused(Refusal { number, place }),
         frames: [Frame { place: 0, code: 0 }; 8],
-    }
-}
-
-// What stands before the payload: the message's length is judged, then its header, then the table's room. The header's end and the declared number of fields,
-// with the frames; or the refusal, with no frames.
-pub fn opened(message: &[u8], lent: Lent) -> header::Answer
-    ensures { λ r. ⌜ r ≡ told noFrames (opening (lentOf lent) (now (message .entry))) ⌝ }
-{
-    let none = [Frame { place: 0, code: 0 }; 8];
-    if LIMIT < message.len() {
-        return closed(8, none);
-    }
-    let h = header(message, none);
-    let said = h.said;
-    match said {
-        Said::Refused(_) => h,
-        Said::Accepted(e) => {
-            if enough(lent, e.fields) {
-                return h;
-            }
-            closed(14, none)
-        }
-    }
-}
-
-// The refusal of this number at 0, as a header's answer with no frames.
-fn closed(number: u32, none: [Frame; 8]) -> header::Answer
-    ensures { λ r. ⌜ r ≡ told none (refused number 0) ⌝ }
-{
-    header::Answer {
-        said: Said::Refused(Refusal { number, place: 0 }),
-        frames: none,
     }
 }
 

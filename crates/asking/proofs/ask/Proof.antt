@@ -3,7 +3,7 @@ use mathlib.Core.Path.{refl, sym, ap, _∙_}
 use Rattle.sim0mq.specs.Answer.{fine}
 use Rattle.sim0mq.specs.Views.{judged}
 use Rattle.header.specs.declared.Answer.{Answer}
-use Rattle.reading.proofs.AnswerCases.{told-refused, told-accepted}
+use Rattle.front.proofs.FrontCases.{told-refused, told-accepted}
 use Rattle.asking.proofs.FindCases.{ask-closed, ask-refused, ask-none, ask-found}
 use borrow.Author.Needs.{needs}
 use Rattle.asking.proofs.ask.Statement.{statement}

@@ -3,7 +3,7 @@ use mathlib.Core.Path.{sym, ap, _∙_}
 use lib.ListN.{length}
 use Rattle.sim0mq.specs.Blank.{outputAfter}
 use Rattle.header.specs.declared.Answer.{Answer}
-use Rattle.reading.proofs.AnswerCases.{told-refused, told-accepted}
+use Rattle.front.proofs.FrontCases.{told-refused, told-accepted}
 use Rattle.blanking.specs.Blanking.{lengthOf}
 use Rattle.blanking.proofs.BlankCases.{blank-closed, blank-copyable, blank-is}
 use borrow.Author.Needs.{needs}

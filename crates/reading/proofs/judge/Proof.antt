@@ -2,7 +2,8 @@
 use mathlib.Core.Path.{sym, ap, _∙_}
 use Rattle.header.specs.declared.Answer.{Answer}
 use Rattle.reading.specs.Answers.{answerOf}
-use Rattle.reading.proofs.AnswerCases.{told-refused, told-accepted, closed-answer, open-within, open-answer, below-most}
+use Rattle.front.proofs.FrontCases.{told-refused, told-accepted, open-within}
+use Rattle.reading.proofs.AnswerCases.{closed-answer, open-answer, below-most}
 use borrow.Author.Needs.{needs}
 use Rattle.reading.proofs.judge.Statement.{statement}
 use Rattle.reading.proofs.judge.Tie as tie

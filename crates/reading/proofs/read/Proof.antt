@@ -2,7 +2,8 @@
 use mathlib.Core.Path.{refl, sym, ap, _∙_}
 use Rattle.header.specs.declared.Answer.{Answer}
 use Rattle.reading.specs.Answers.{answerOf}
-use Rattle.reading.proofs.AnswerCases.{told-refused, told-accepted, closed-answer, closed-table, open-within, open-fillable, open-answer, open-table, below-most}
+use Rattle.front.proofs.FrontCases.{told-refused, told-accepted, open-within}
+use Rattle.reading.proofs.AnswerCases.{closed-answer, closed-table, open-fillable, open-answer, open-table, below-most}
 use borrow.Author.Needs.{needs}
 use Rattle.reading.proofs.read.Statement.{statement}
 use Rattle.reading.proofs.read.Tie as tie

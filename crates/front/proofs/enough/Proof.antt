@@ -1,12 +1,12 @@
 -- The two cases are the definition's; a division by five spares the product.
 use borrow.Author.Needs.{needs}
 use mathlib.Core.Path.{sym, ap, _∙_}
-use Rattle.reading.specs.Answers.{lentOf}
-use Rattle.reading.specs.declared.Lent.{Lent}
+use Rattle.front.specs.Front.{lentOf}
+use Rattle.front.specs.declared.Lent.{Lent}
 use Rattle.sim0mq.specs.Message.{enough}
-use Rattle.reading.proofs.AnswerCases.{enough-none, enough-table}
-use Rattle.reading.proofs.enough.Statement.{statement}
-use Rattle.reading.proofs.enough.Tie as tie
+use Rattle.front.proofs.FrontCases.{enough-none, enough-table}
+use Rattle.front.proofs.enough.Statement.{statement}
+use Rattle.front.proofs.enough.Tie as tie
 
 enum-told : tie.Need-enum-told
 enum-told c = search needs

@@ -4,10 +4,10 @@ use mathlib.Core.Path.{sym, ap, _∙_}
 use Rattle.sim0mq.specs.Message.{enough, limit}
 use Rattle.header.specs.declared.Answer.{Answer}
 use Rattle.header.specs.Frames.{told}
-use Rattle.reading.proofs.AnswerCases.{told-refused, told-accepted, opening-long, opening-stop, opening-room, opening-fine}
+use Rattle.front.proofs.FrontCases.{told-refused, told-accepted, opening-long, opening-stop, opening-room, opening-fine}
 use borrow.Author.Needs.{needs}
-use Rattle.reading.proofs.opened.Statement.{statement}
-use Rattle.reading.proofs.opened.Tie as tie
+use Rattle.front.proofs.opened.Statement.{statement}
+use Rattle.front.proofs.opened.Tie as tie
 
 closed-requires : tie.Need-closed-requires
 closed-requires c κs = search needs
