@@ -34,10 +34,7 @@ pub fn listing(said: Reading, table: &[u32], out: &mut [u8]) -> usize
             let end = rows(found.fields, table, out, at);
             whole(end, out)
         }
-        Reading::Refused(refusal) => {
-            let end = refused(refusal, out);
-            whole(end, out)
-        }
+        Reading::Refused(_) => first_line(said, out),
     }
 }
 

@@ -10,11 +10,12 @@ use borrow.Author.Needs.{needs}
 use borrow.Author.Tests.{le-leb, lt-leb}
 use Rattle.sim0mq.specs.Table.{rowSize}
 use Rattle.sim0mq.specs.Message.{enough}
+use Rattle.sim0mq.specs.declared.Refusal.{Refusal}
 use Rattle.reading.specs.declared.Found.{Found}
 use Rattle.reading.specs.declared.Reading.{Reading}
-use Rattle.reading.specs.declared.Reading.the-variants.{Accepted}
+use Rattle.reading.specs.declared.Reading.the-variants.{Accepted, Refused}
 use Rattle.listing.specs.Put.{Buffer, putAll, outAfter, bytesBefore, bytesOf}
-use Rattle.listing.specs.Text.{acceptedText, rowsText, wholeText}
+use Rattle.listing.specs.Text.{acceptedText, rowsText, lineText, wholeText}
 use Rattle.listing.proofs.PutCases.{put-append, put-told}
 use Rattle.listing.proofs.listing.Statement.{statement}
 use Rattle.listing.proofs.listing.Tie as tie
@@ -33,6 +34,10 @@ long said f table e h = rw (e, le-leb (5 * f .fields) (length table) (omega arit
 nothing : (out : List ℕ) (text : List (List ℕ)) → text ≡ [] → (0 ≡ bytesOf out text) × (out ≡ outAfter out text)
 unfolding bytesBefore bytesOf outAfter putAll flatMap
 nothing out text e = rw e (rw (leb·zero (length out)) refl, refl)
+
+-- the text of a refusal is its first line
+one-line : (said : Reading) (r : Refusal) (table : List ℕ) → said ≡ Refused r → lineText said ≡ wholeText said table
+one-line said r table e = rw e refl
 
 -- the first line, and after it the rows
 both : (start mid end : Buffer) (f : Found) (table : List ℕ) → mid ≡ putAll start (acceptedText f) → end ≡ putAll mid (rowsText table (f .fields))
@@ -58,14 +63,11 @@ rows-requires c κs = search needs
 whole-requires : tie.Need-whole-requires
 whole-requires c κs = search needs
 
-enum-known-said-2 : tie.Need-enum-known-said-2
-enum-known-said-2 c = search needs
+enum-told : tie.Need-enum-told
+enum-told c = search needs
 
-refused-requires : tie.Need-refused-requires
-refused-requires c κs = search needs
-
-whole-requires-2 : tie.Need-whole-requires-2
-whole-requires-2 c κs = search needs
+first-line-requires : tie.Need-first-line-requires
+first-line-requires c κs = search needs
 
 same-length : tie.Need-same-length
 same-length c = search needs
@@ -87,11 +89,11 @@ same-length-2 c = search needs
 
 returns-3 : tie.Need-returns-3
 returns-3 c =
-    let l = c .before .before .before .before in
-    let m = l .before .before .before in
-    let a = m .before .before .before .before .args in
-    let e = ap (λ (x : Reading). wholeText x (a .table .now)) (m .said2 .given .1) in
-    (c .whole2 .ensures .0, put-told _ _ _ _ _ _ e (l .refused .ensures) (c .whole2 .ensures .1))
+    let l = c .before .before in
+    let a = l .before .before .before .before .before .before .args in
+    let e = one-line _ _ (a .table .now) (l .before .before .enum-told .given .1) in
+    let told = l .first-line .ensures in
+    (told .0, (told .1 .0 ∙ ap (bytesOf (a .out .now)) e, told .1 .1 ∙ ap (outAfter (a .out .now)) e))
 
 pub listing-spec : {M : Type 1} → statement M
 listing-spec =
@@ -102,9 +104,8 @@ listing-spec =
     accepted-requires
     rows-requires
     whole-requires
-    enum-known-said-2
-    refused-requires
-    whole-requires-2
+    enum-told
+    first-line-requires
     same-length
     returns-2
     same-length-2
