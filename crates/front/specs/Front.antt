@@ -4,7 +4,7 @@ use mathlib.Core.List.{List}
 use lib.ListN.{length, replicate}
 use lib.Dec.{leb}
 use Rattle.sim0mq.specs.Answer as S
-use Rattle.sim0mq.specs.Answer.{fine, refused, _>>=_, _>>_, guard}
+use Rattle.sim0mq.specs.Answer.{fine, _>>=_, _>>_, guard}
 use Rattle.sim0mq.specs.Header.{Header, header}
 use Rattle.sim0mq.specs.Message as M
 use Rattle.sim0mq.specs.Message.{limit, enough}
