@@ -1,0 +1,4 @@
+pub mod RestLaws
+pub mod FrontLaws
+pub mod RunLaws
+pub mod Promises
