@@ -5,8 +5,9 @@ use mathlib.Core.Path.{_≡_, refl}
 use mathlib.Core.Bool.{Bool, true, false, not, _&&_, _||_, false≢true}
 use mathlib.Core.List.{List, [], _∷_}
 use lib.ListN.{length, getD}
+use native.Mathlib.Omega.{arith}
 use lib.Dec.{leb, eqb}
-use borrow.Author.Tests.{leb-true, eqb-true, not-true}
+use borrow.Author.Tests.{leb-true, eqb-true, eqb-false, not-true}
 use Rattle.sim0mq.specs.Codes.{countRow, widthRow, countsOf, widthOf, boolean}
 use Rattle.sim0mq.specs.Header.{idCodes, numberCodes, statusCodes, countCodes, among}
 use Rattle.sim0mq.proofs.Answers.{and-true}
@@ -40,6 +41,24 @@ pass-among test (x ∷ xs) k a e =
     go : (b : Bool) → eqb k x ≡ b → (b || among k xs) ≡ true → test x ≡ true → (among k xs ≡ true → test k ≡ true) → test k ≡ true
     go true q r here later = rw (eqb-true k x q) here
     go false q r here later = later r
+
+-- each number below n passes a test
+unfoldable pub allBelow : ℕ → (ℕ → Bool) → Bool
+allBelow zero test = true
+allBelow (suc n) test = test n && allBelow n test
+
+pub below-at : (test : ℕ → Bool) (n k : ℕ) → allBelow n test ≡ true → k < n → test k ≡ true
+unfolding allBelow
+below-at test zero k a h = absurd (not-suc-le-zero h)
+below-at test (suc n) k a h =
+    let both = and-true (test n) (allBelow n test) a in go (eqb k n) refl (both .0) (λ l. below-at test n k (both .1) l) h
+  where
+    go : (b : Bool) → eqb k n ≡ b → test n ≡ true → (k < n → test k ≡ true) → k < suc n → test k ≡ true
+    go true e here lower h = rw (eqb-true k n e) here
+    go false e here lower h = lower (let d = eqb-false k n e in less d h)
+      where
+        less : (k ≡ n → ⊥) → k < suc n → k < n
+        less d h = omega arith
 
 -- no code has more than two counts
 pub two-counts : (c : ℕ) → countsOf c ≤ 2

@@ -1,34 +1,15 @@
 -- An entry that is computed is the table's, since a test computed over all codes passes.
 use Prim.Native.Nat.{ℕ, zero, suc, _≤_, _<_}
-use mathlib.Core.Path.{_≡_, refl, sym, ap}
-use mathlib.Core.Bool.{Bool, true, false, not, _&&_, _||_}
+use mathlib.Core.Path.{_≡_, sym, ap}
+use mathlib.Core.Bool.{Bool, true, false, not, _||_}
 use mathlib.Core.List.{List}
 use native.Mathlib.Omega.{arith}
-use native.Mathlib.Nat.{not-suc-le-zero}
 use lib.Dec.{ltb, eqb}
 use lib.ListN.{length, getD, List·getD-eq-default}
-use borrow.Author.Tests.{le-ltb, eqb-true, eqb-false}
+use borrow.Author.Tests.{le-ltb, eqb-true}
 use Rattle.sim0mq.specs.Codes.{widthOf}
-use Rattle.sim0mq.proofs.Answers.{and-true}
+use Rattle.sim0mq.proofs.Rows.{allBelow, below-at}
 use Rattle.tables.specs.Bits.{bit}
-
--- each number below n passes a test
-unfoldable pub allBelow : ℕ → (ℕ → Bool) → Bool
-allBelow zero test = true
-allBelow (suc n) test = test n && allBelow n test
-
-below-at : (test : ℕ → Bool) (n k : ℕ) → allBelow n test ≡ true → k < n → test k ≡ true
-unfolding allBelow
-below-at test zero k a h = absurd (not-suc-le-zero h)
-below-at test (suc n) k a h =
-    let both = and-true (test n) (allBelow n test) a in go (eqb k n) refl (both .0) (λ l. below-at test n k (both .1) l) h
-  where
-    go : (b : Bool) → eqb k n ≡ b → test n ≡ true → (k < n → test k ≡ true) → k < suc n → test k ≡ true
-    go true e here lower h = rw (eqb-true k n e) here
-    go false e here lower h = lower (let d = eqb-false k n e in less d h)
-      where
-        less : (k ≡ n → ⊥) → k < suc n → k < n
-        less d h = omega arith
 
 -- two functions agree at each number that is not skipped
 unfoldable pub agreeing : (ℕ → Bool) → (ℕ → ℕ) → (ℕ → ℕ) → ℕ → Bool

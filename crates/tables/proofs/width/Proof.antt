@@ -4,7 +4,8 @@ use native.Mathlib.Omega.{arith}
 use borrow.Author.Needs.{needs}
 use Rattle.sim0mq.specs.Codes.{widthRow, widthOf}
 use Rattle.tables.specs.Bits.{bit}
-use Rattle.tables.proofs.TableCases.{allBelow, agreeing, width-told, width-left, past}
+use Rattle.sim0mq.proofs.Rows.{allBelow}
+use Rattle.tables.proofs.TableCases.{agreeing, width-told, width-left, past}
 use Rattle.tables.proofs.width.Statement.{statement}
 use Rattle.tables.proofs.width.Tie as tie
 
