@@ -1,17 +1,19 @@
 -- How the mark judges answer, case by case, in the words of the code's tests: each return of the code cites the case that it is.
 use Prim.Native.Nat.{ℕ, zero, suc, _+_, _-_, _≤_, _<_}
-use mathlib.Core.Path.{_≡_, refl, _∙_}
-use mathlib.Core.Bool.{true, false}
+use mathlib.Core.Path.{_≡_, refl, ap, sym, _∙_}
+use mathlib.Core.Bool.{Bool, true, false}
 use mathlib.Core.List.{List}
 use native.Mathlib.Omega.{arith}
 use native.Mathlib.Numerals.{add-one}
 use native.Mathlib.Nat.{not-suc-le-zero}
 use lib.ListN.{length, getD}
-use lib.Dec.{leb}
-use borrow.Author.Tests.{leb-true, le-leb, lt-leb, ne-eqb}
+use lib.Dec.{leb, eqb}
+use borrow.Author.Tests.{leb-true, eqb-true, eqb-false, le-leb, lt-leb, ne-eqb}
 use Rattle.sim0mq.specs.Answer.{fine, refused, byte, big}
 use Rattle.sim0mq.specs.Mark.{perRow, Kind, plain, money, moneyPer, unknown, kindOf, currencyTaken, displayTaken, currency, display, markRest, mark, marks}
 use Rattle.sim0mq.proofs.Rows.{allPass, pass-any}
+use Rattle.numbers.specs.Numbers.{numberAt}
+use Rattle.numbers.proofs.NumberCases.{number-there}
 
 module _ (s : List ℕ) where
   pub display-short : (t at : ℕ) → length s ≤ at → display s t at ≡ refused 1 (length s)
@@ -25,6 +27,10 @@ module _ (s : List ℕ) where
   pub display-fine : (t at : ℕ) → at < length s → displayTaken t (byte s at) ≡ true → display s t at ≡ fine (at + 1)
   unfolding display
   display-fine t at h k = simp (le-leb (at + 1) (length s) (omega arith), k)
+
+  -- what was told of the number read is told of the two bytes
+  pub currency-told : (at n : ℕ) (t r : Bool) → at + 2 ≤ length s → n ≡ numberAt s at 2 → t ≡ currencyTaken n → t ≡ r → currencyTaken (big s at 2) ≡ r
+  currency-told at n t r h e f g = ap currencyTaken (sym (number-there s at 2 h (omega arith)) ∙ sym e) ∙ sym f ∙ g
 
   pub currency-short : (at : ℕ) → length s < at + 2 → currency s at ≡ refused 1 (length s)
   unfolding currency
@@ -97,6 +103,39 @@ module _ (s : List ℕ) (at u : ℕ) (there : at < length s) (is : u ≡ byte s 
   pub mark-per-stop : (k p : ℕ) → 100 < u → u ≤ 106 → currency s (at + 1) ≡ refused k p → mark s at ≡ refused k p
   unfolding markRest
   mark-per-stop k p i l q = mark-of (moneyPer (getD perRow (u - 101) 0)) (kind-per u i l) ∙ simp q
+
+-- the same, where the most bytes that a mark has are there
+module _ (s : List ℕ) (at u : ℕ) (room : at + 4 ≤ length s) (is : u ≡ byte s at) where
+  pub roomy-plain : u ≤ 28 → displayTaken u (byte s (at + 1)) ≡ true → mark s at ≡ fine (at + 2)
+  roomy-plain k d = mark-plain s at u (omega arith) is k ∙ display-fine s u (at + 1) (omega arith) d ∙ ap fine (omega arith)
+
+  pub roomy-plain-over : u ≤ 28 → displayTaken u (byte s (at + 1)) ≡ false → mark s at ≡ refused 12 (at + 1)
+  roomy-plain-over k d = mark-plain s at u (omega arith) is k ∙ display-over s u (at + 1) (omega arith) d
+
+  pub roomy-currency-over : 99 < u → u ≤ 106 → currencyTaken (big s (at + 1) 2) ≡ false → mark s at ≡ refused 12 (at + 1)
+  roomy-currency-over k l d = go (eqb u 100) refl
+    where
+      over : currency s (at + 1) ≡ refused 12 (at + 1)
+      over = currency-over s (at + 1) (omega arith) d
+
+      go : (t : Bool) → eqb u 100 ≡ t → mark s at ≡ refused 12 (at + 1)
+      go true e = mark-money s at u (omega arith) is (eqb-true u 100 e) ∙ over
+      go false e = let other = eqb-false u 100 e in mark-per-stop s at u (omega arith) is 12 (at + 1) (omega arith) l over
+
+  taken : currencyTaken (big s (at + 1) 2) ≡ true → currency s (at + 1) ≡ fine (at + 3)
+  taken d = currency-fine s (at + 1) (omega arith) d ∙ ap fine (omega arith)
+
+  pub roomy-money : u ≡ 100 → currencyTaken (big s (at + 1) 2) ≡ true → mark s at ≡ fine (at + 3)
+  roomy-money k d = mark-money s at u (omega arith) is k ∙ taken d
+
+  pub roomy-per : (t : ℕ) → 100 < u → u ≤ 106 → t ≡ getD perRow (u - 101) 0 → currencyTaken (big s (at + 1) 2) ≡ true
+      → displayTaken t (byte s (at + 3)) ≡ true → mark s at ≡ fine (at + 4)
+  roomy-per t k l e d f =
+      mark-per-fine s at u (omega arith) is t (at + 3) k l e (taken d) ∙ display-fine s t (at + 3) (omega arith) f ∙ ap fine (omega arith)
+
+  pub roomy-per-over : (t : ℕ) → 100 < u → u ≤ 106 → t ≡ getD perRow (u - 101) 0 → currencyTaken (big s (at + 1) 2) ≡ true
+      → displayTaken t (byte s (at + 3)) ≡ false → mark s at ≡ refused 12 (at + 3)
+  roomy-per-over t k l e d f = mark-per-fine s at u (omega arith) is t (at + 3) k l e (taken d) ∙ display-over s t (at + 3) (omega arith) f
 
 -- the marks from a place on: none left, one more, or a refusal
 module _ (s : List ℕ) where

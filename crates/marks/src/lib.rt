@@ -1,6 +1,6 @@
 // Unit marks.
 ghost use mathlib.Core.Path.{_≡_};
-ghost use Prim.Native.Nat.{_<_, _≤_};
+ghost use Prim.Native.Nat.{_+_, _<_, _≤_};
 ghost use lib.ListN.{length};
 ghost use Rattle.sim0mq.specs.Mark.{currency as currencyOf, display as displayOf, mark as markOf, marks as marksOf};
 ghost use Rattle.sim0mq.specs.Views.{judged};
@@ -39,13 +39,41 @@ fn display(s: &[u8], t: usize, at: usize) -> Judged
     sim0mq::refuse(12, at)
 }
 
-// The mark at `at`: the place after it.
-pub fn mark(s: &[u8], at: usize) -> Judged
+// The mark at `at`, where four bytes are left, the most that a mark has: the place after it.
+fn roomy(s: &[u8], at: usize) -> Judged
+    requires { ⌜ at + 4 ≤ length (now s) ⌝ }
     ensures { λ r. ⌜ judged r ≡ markOf (now (s .entry)) at ⌝ }
 {
-    if s.len() <= at {
-        return sim0mq::refuse(1, s.len());
+    let u = wide(s[at]);
+    if u <= 28 {
+        if display_taken(u, s[at + 1]) {
+            return Judged::Accepted(at + 2);
+        }
+        return sim0mq::refuse(12, at + 1);
     }
+    if u <= 99 {
+        return sim0mq::refuse(11, at);
+    }
+    if 106 < u {
+        return sim0mq::refuse(11, at);
+    }
+    if !currency_taken(number(s, at + 1, 2)) {
+        return sim0mq::refuse(12, at + 1);
+    }
+    if u == 100 {
+        return Judged::Accepted(at + 3);
+    }
+    if display_taken(per(u - 101), s[at + 3]) {
+        return Judged::Accepted(at + 4);
+    }
+    sim0mq::refuse(12, at + 3)
+}
+
+// The mark at `at`, where fewer may be left: the place after it.
+fn scant(s: &[u8], at: usize) -> Judged
+    requires { ⌜ at < length (now s) ⌝ }
+    ensures { λ r. ⌜ judged r ≡ markOf (now (s .entry)) at ⌝ }
+{
     let u = wide(s[at]);
     if u <= 28 {
         return display(s, u, at + 1);
@@ -63,6 +91,19 @@ pub fn mark(s: &[u8], at: usize) -> Judged
         Judged::Accepted(p) => display(s, per(u - 101), p),
         Judged::Refused(r) => Judged::Refused(r),
     }
+}
+
+// The mark at `at`: the place after it.
+pub fn mark(s: &[u8], at: usize) -> Judged
+    ensures { λ r. ⌜ judged r ≡ markOf (now (s .entry)) at ⌝ }
+{
+    if s.len() <= at {
+        return sim0mq::refuse(1, s.len());
+    }
+    if 4 <= s.len() - at {
+        return roomy(s, at);
+    }
+    scant(s, at)
 }
 
 // The n marks from `at` on: the place after them.

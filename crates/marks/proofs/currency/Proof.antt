@@ -1,10 +1,8 @@
 -- Each return is a case of the definition; the two bytes that are there write the number that is tested.
 use native.Mathlib.Omega.{arith}
 use borrow.Author.Needs.{needs}
-use mathlib.Core.Path.{sym, ap, _∙_}
-use Rattle.sim0mq.specs.Mark.{currencyTaken}
-use Rattle.marks.proofs.MarkCases.{currency-short, currency-over, currency-fine}
-use Rattle.numbers.proofs.NumberCases.{number-there}
+use mathlib.Core.Path.{sym, _∙_}
+use Rattle.marks.proofs.MarkCases.{currency-told, currency-short, currency-over, currency-fine}
 use Rattle.marks.proofs.currency.Statement.{statement}
 use Rattle.marks.proofs.currency.Tie as tie
 
@@ -28,16 +26,19 @@ add-t8 c = search needs
 
 returns-2 : tie.Need-returns-2
 returns-2 c =
-    let number = sym (number-there _ _ 2 (omega arith) (omega arith)) ∙ sym (c .before .before .number .ensures .0) in
-    sym (currency-fine _ _ (omega arith) (ap currencyTaken number ∙ sym (c .before .currency-taken .ensures) ∙ c .if2 .taken))
+    sym
+    (currency-fine _ _ (omega arith)
+    (currency-told _ _ _ _ _ (omega arith) (c .before .before .number .ensures .0) (c .before .currency-taken .ensures) (c .if2 .taken)))
 
 refuse-requires-2 : tie.Need-refuse-requires-2
 refuse-requires-2 c κs = search needs
 
 returns-3 : tie.Need-returns-3
 returns-3 c =
-    let number = sym (number-there _ _ 2 (omega arith) (omega arith)) ∙ sym (c .before .before .before .number .ensures .0) in
-    c .refuse2 .ensures ∙ sym (currency-over _ _ (omega arith) (ap currencyTaken number ∙ sym (c .before .before .currency-taken .ensures) ∙ c .before .if2 .left))
+    c .refuse2 .ensures
+    ∙ sym
+    (currency-over _ _ (omega arith)
+    (currency-told _ _ _ _ _ (omega arith) (c .before .before .before .number .ensures .0) (c .before .before .currency-taken .ensures) (c .before .if2 .left)))
 
 pub currency-spec : {M : Type 1} → statement M
 currency-spec =

@@ -1,10 +1,8 @@
--- Each return is a case of the definition, told by the unit type's kind.
-use borrow.Author.Needs.{needs}
-use Prim.Native.Nat.{ℕ, _-_, _<_}
+-- Without a byte it is refused; the two ways, with room for the longest mark and with less, answer the same definition.
 use native.Mathlib.Omega.{arith}
-use mathlib.Core.Path.{sym, ap, _∙_, subst}
-use Rattle.sim0mq.specs.Views.{judged}
-use Rattle.marks.proofs.MarkCases.{per-known, mark-short, mark-plain, mark-between, mark-above, mark-money, mark-per-fine, mark-per-stop}
+use borrow.Author.Needs.{needs}
+use mathlib.Core.Path.{sym, _∙_}
+use Rattle.marks.proofs.MarkCases.{mark-short}
 use Rattle.marks.proofs.mark.Statement.{statement}
 use Rattle.marks.proofs.mark.Tie as tie
 
@@ -14,100 +12,20 @@ refuse-requires c κs = search needs
 returns : tie.Need-returns
 returns c = c .refuse .ensures ∙ sym (mark-short _ _ (omega arith))
 
-shared-slice-read-wide : tie.Need-shared-slice-read-wide
-shared-slice-read-wide c = search needs
+sub-if2 : tie.Need-sub-if2
+sub-if2 c = search needs
 
-wide-requires : tie.Need-wide-requires
-wide-requires c κs = search needs
-
-add-display : tie.Need-add-display
-add-display c = search needs
-
-display-requires : tie.Need-display-requires
-display-requires c κs = search needs
+roomy-requires : tie.Need-roomy-requires
+roomy-requires c κs = search needs
 
 returns-2 : tie.Need-returns-2
-returns-2 c = c .display .ensures ∙ sym (mark-plain _ _ _ (omega arith) (c .before .before .wide .ensures .0) (omega arith))
+returns-2 c = search needs
 
-refuse-requires-2 : tie.Need-refuse-requires-2
-refuse-requires-2 c κs = search needs
+scant-requires : tie.Need-scant-requires
+scant-requires c κs = search needs
 
 returns-3 : tie.Need-returns-3
-returns-3 c = c .refuse2 .ensures ∙ sym (mark-between _ _ (c .before .before .before .wide .result) (omega arith) (c .before .before .before .wide .ensures .0) (omega arith) (omega arith))
-
-add-currency : tie.Need-add-currency
-add-currency c = search needs
-
-currency-requires : tie.Need-currency-requires
-currency-requires c κs = search needs
-
-returns-4 : tie.Need-returns-4
-returns-4 c = c .currency .ensures ∙ sym (mark-money _ _ (c .before .before .before .before .wide .result) (omega arith) (c .before .before .before .before .wide .ensures .0) (c .before .if4 .taken))
-
-refuse-requires-3 : tie.Need-refuse-requires-3
-refuse-requires-3 c κs = search needs
-
-returns-5 : tie.Need-returns-5
-returns-5 c = c .refuse3 .ensures ∙ sym (mark-above _ _ (c .before .before .before .before .before .wide .result) (omega arith) (c .before .before .before .before .before .wide .ensures .0) (omega arith))
-
-add-currency-2 : tie.Need-add-currency-2
-add-currency-2 c = search needs
-
-currency-requires-2 : tie.Need-currency-requires-2
-currency-requires-2 c κs = search needs
-
-enum-known-p : tie.Need-enum-known-p
-enum-known-p c = search needs
-
-sub-per : tie.Need-sub-per
-sub-per c = search needs
-
-per-requires : tie.Need-per-requires
-per-requires c κs = search needs
-
-display-requires-2 : tie.Need-display-requires-2
-display-requires-2 c κs = subst (λ (t : ℕ). t < 29) (sym (c .per .ensures)) (per-known (c .before .before .before .before .before .before .before .before .before .wide .result - 101))
-
-enum-known-r : tie.Need-enum-known-r
-enum-known-r c = search needs
-
-returns-6 : tie.Need-returns-6
-returns-6 c =
-    c .display2 .ensures
-    ∙ sym
-    (mark-per-fine _ _ (c .before .before .before .before .before .before .before .before .before .before .wide .result) (omega arith) (c .before .before .before .before .before .before .before .before .before .before .wide .ensures .0) _ _ (omega arith) (omega arith) (c .before .per .ensures)
-    (sym (c .before .before .before .before .before .currency2 .ensures) ∙ ap judged (c .before .before .before .p .given .1)))
-
-returns-7 : tie.Need-returns-7
-returns-7 c =
-    sym
-    (mark-per-stop _ _ (c .before .before .before .before .before .before .before .before .wide .result) (omega arith) (c .before .before .before .before .before .before .before .before .wide .ensures .0) _ _ (omega arith) (omega arith)
-    (sym (c .before .before .before .currency2 .ensures) ∙ ap judged (c .before .r .given .1)))
+returns-3 c = search needs
 
 pub mark-spec : {M : Type 1} → statement M
-mark-spec =
-    tie.close
-    (tie.spec
-    refuse-requires
-    returns
-    shared-slice-read-wide
-    wide-requires
-    add-display
-    display-requires
-    returns-2
-    refuse-requires-2
-    returns-3
-    add-currency
-    currency-requires
-    returns-4
-    refuse-requires-3
-    returns-5
-    add-currency-2
-    currency-requires-2
-    enum-known-p
-    sub-per
-    per-requires
-    display-requires-2
-    enum-known-r
-    returns-6
-    returns-7)
+mark-spec = tie.close (tie.spec refuse-requires returns sub-if2 roomy-requires returns-2 scant-requires returns-3)

@@ -1,0 +1,158 @@
+-- Each return is a case of the definition, told by the unit type's kind; no item's room is asked for again.
+use native.Mathlib.Omega.{arith}
+use borrow.Author.Needs.{needs}
+use borrow.Author.Tests.{not-true, not-false}
+use mathlib.Core.Path.{sym, _∙_}
+use Rattle.marks.proofs.MarkCases.{currency-told, mark-between, mark-above, roomy-plain, roomy-plain-over, roomy-currency-over, roomy-money, roomy-per, roomy-per-over}
+use Rattle.marks.proofs.roomy.Statement.{statement}
+use Rattle.marks.proofs.roomy.Tie as tie
+
+shared-slice-read-wide : tie.Need-shared-slice-read-wide
+shared-slice-read-wide c = search needs
+
+wide-requires : tie.Need-wide-requires
+wide-requires c κs = search needs
+
+add-display-taken : tie.Need-add-display-taken
+add-display-taken c = search needs
+
+shared-slice-read-display-taken : tie.Need-shared-slice-read-display-taken
+shared-slice-read-display-taken c = search needs
+
+display-taken-requires : tie.Need-display-taken-requires
+display-taken-requires c κs = search needs
+
+add-t11 : tie.Need-add-t11
+add-t11 c = search needs
+
+returns : tie.Need-returns
+returns c =
+    sym (roomy-plain _ _ _ (omega arith) (c .before .before .before .before .wide .ensures .0) (omega arith) (sym (c .before .display-taken .ensures) ∙ c .if2 .taken))
+
+add-refuse : tie.Need-add-refuse
+add-refuse c = search needs
+
+refuse-requires : tie.Need-refuse-requires
+refuse-requires c κs = search needs
+
+returns-2 : tie.Need-returns-2
+returns-2 c =
+    c .refuse .ensures
+    ∙ sym (roomy-plain-over _ _ _ (omega arith) (c .before .before .before .before .before .wide .ensures .0) (omega arith) (sym (c .before .before .display-taken .ensures) ∙ c .before .if2 .left))
+
+refuse-requires-2 : tie.Need-refuse-requires-2
+refuse-requires-2 c κs = search needs
+
+returns-3 : tie.Need-returns-3
+returns-3 c = c .refuse2 .ensures ∙ sym (mark-between _ _ (c .before .before .before .wide .result) (omega arith) (c .before .before .before .wide .ensures .0) (omega arith) (omega arith))
+
+refuse-requires-3 : tie.Need-refuse-requires-3
+refuse-requires-3 c κs = search needs
+
+returns-4 : tie.Need-returns-4
+returns-4 c = c .refuse3 .ensures ∙ sym (mark-above _ _ (c .before .before .before .before .wide .result) (omega arith) (c .before .before .before .before .wide .ensures .0) (omega arith))
+
+add-number : tie.Need-add-number
+add-number c = search needs
+
+number-requires : tie.Need-number-requires
+number-requires c κs = search needs
+
+currency-taken-requires : tie.Need-currency-taken-requires
+currency-taken-requires c κs = search needs
+
+add-refuse-2 : tie.Need-add-refuse-2
+add-refuse-2 c = search needs
+
+refuse-requires-4 : tie.Need-refuse-requires-4
+refuse-requires-4 c κs = search needs
+
+returns-5 : tie.Need-returns-5
+returns-5 c =
+    c .refuse4 .ensures
+    ∙ sym
+    (roomy-currency-over _ _ (c .before .before .before .before .before .before .before .wide .result) (omega arith) (c .before .before .before .before .before .before .before .wide .ensures .0) (omega arith) (omega arith)
+    (currency-told _ _ _ _ _ (omega arith) (c .before .before .before .number .ensures .0) (c .before .before .currency-taken .ensures) (not-true _ (c .before .if5 .taken))))
+
+add-t16 : tie.Need-add-t16
+add-t16 c = search needs
+
+returns-6 : tie.Need-returns-6
+returns-6 c =
+    sym
+    (roomy-money _ _ (c .before .before .before .before .before .before .before .wide .result) (omega arith) (c .before .before .before .before .before .before .before .wide .ensures .0) (c .if6 .taken)
+    (currency-told _ _ _ _ _ (omega arith) (c .before .before .before .number .ensures .0) (c .before .before .currency-taken .ensures) (not-false _ (c .before .if5 .left))))
+
+sub-per : tie.Need-sub-per
+sub-per c = search needs
+
+per-requires : tie.Need-per-requires
+per-requires c κs = search needs
+
+add-display-taken-2 : tie.Need-add-display-taken-2
+add-display-taken-2 c = search needs
+
+shared-slice-read-display-taken-2 : tie.Need-shared-slice-read-display-taken-2
+shared-slice-read-display-taken-2 c = search needs
+
+display-taken-requires-2 : tie.Need-display-taken-requires-2
+display-taken-requires-2 c κs = search needs
+
+add-t20 : tie.Need-add-t20
+add-t20 c = search needs
+
+returns-7 : tie.Need-returns-7
+returns-7 c =
+    sym
+    (roomy-per _ _ (c .before .before .before .before .before .before .before .before .before .before .before .wide .result) (omega arith) (c .before .before .before .before .before .before .before .before .before .before .before .wide .ensures .0) _ (omega arith) (omega arith) (c .before .before .before .per .ensures)
+    (currency-told _ _ _ _ _ (omega arith) (c .before .before .before .before .before .before .before .number .ensures .0) (c .before .before .before .before .before .before .currency-taken .ensures) (not-false _ (c .before .before .before .before .before .if5 .left))) (sym (c .before .display-taken2 .ensures) ∙ c .if7 .taken))
+
+add-refuse-3 : tie.Need-add-refuse-3
+add-refuse-3 c = search needs
+
+refuse-requires-5 : tie.Need-refuse-requires-5
+refuse-requires-5 c κs = search needs
+
+returns-8 : tie.Need-returns-8
+returns-8 c =
+    c .refuse5 .ensures
+    ∙ sym
+    (roomy-per-over _ _ (c .before .before .before .before .before .before .before .before .before .before .before .before .wide .result) (omega arith) (c .before .before .before .before .before .before .before .before .before .before .before .before .wide .ensures .0) _ (omega arith) (omega arith) (c .before .before .before .before .per .ensures)
+    (currency-told _ _ _ _ _ (omega arith) (c .before .before .before .before .before .before .before .before .number .ensures .0) (c .before .before .before .before .before .before .before .currency-taken .ensures) (not-false _ (c .before .before .before .before .before .before .if5 .left))) (sym (c .before .before .display-taken2 .ensures) ∙ c .before .if7 .left))
+
+pub roomy-spec : {M : Type 1} → statement M
+roomy-spec =
+    tie.close
+    (tie.spec
+    shared-slice-read-wide
+    wide-requires
+    add-display-taken
+    shared-slice-read-display-taken
+    display-taken-requires
+    add-t11
+    returns
+    add-refuse
+    refuse-requires
+    returns-2
+    refuse-requires-2
+    returns-3
+    refuse-requires-3
+    returns-4
+    add-number
+    number-requires
+    currency-taken-requires
+    add-refuse-2
+    refuse-requires-4
+    returns-5
+    add-t16
+    returns-6
+    sub-per
+    per-requires
+    add-display-taken-2
+    shared-slice-read-display-taken-2
+    display-taken-requires-2
+    add-t20
+    returns-7
+    add-refuse-3
+    refuse-requires-5
+    returns-8)
