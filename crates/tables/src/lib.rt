@@ -1,10 +1,12 @@
-// The rows of the format's tables (specs Codes and Mark of sim0mq). They are written as code, since a constant array would be laid out anew at each call.
+// The rows of the format's tables (specs Codes and Mark of sim0mq). Those of field codes are written as code, since a
+// constant array is laid out anew at each lookup; those of display codes are rows, to be held against the manual's page.
 ghost use mathlib.Core.Path.{_≡_};
 ghost use Prim.Native.Nat.{_≤_};
 ghost use lib.ListN.{getD};
 ghost use Rattle.sim0mq.specs.Codes.{countsOf, markingOf, widthOf};
 ghost use Rattle.sim0mq.specs.Mark.{lastRow, perRow};
 ghost use Rattle.tables.specs.Bits.{bit};
+use numbers::wide;
 
 // The codes whose values have one byte, four and eight: a bit for each of the codes 0 to 32, the last code's first.
 const ONES: usize = 0b0_00000001_00000110_00001010_11000001;
@@ -12,6 +14,49 @@ const ONES: usize = 0b0_00000001_00000110_00001010_11000001;
 const FOURS: usize = 0b0_10101010_01010000_10100000_00010100;
 
 const EIGHTS: usize = 0b1_01010100_10100001_01000000_00101000;
+
+// The last display code of each unit type, a line for each section of the manual's Appendix A.
+const LAST: [u8; 29] = [
+    0, // 0 Dimensionless
+    8, // 1 Acceleration
+    1, // 2 AngleSolid
+    6, // 3 Angle
+    3, // 4 Direction
+    21, // 5 Area
+    1, // 6 Density
+    16, // 7 ElectricalCharge
+    7, // 8 ElectricalCurrent
+    8, // 9 ElectricalPotential
+    8, // 10 ElectricalResistance
+    38, // 11 Energy
+    1, // 12 FlowMass
+    15, // 13 FlowVolume
+    6, // 14 Force
+    16, // 15 Frequency
+    21, // 16 Length
+    21, // 17 Position
+    21, // 18 LinearDensity
+    24, // 19 Mass
+    15, // 20 Power
+    16, // 21 Pressure
+    13, // 22 Speed
+    4, // 23 Temperature
+    4, // 24 AbsoluteTemperature
+    10, // 25 Duration
+    15, // 26 Time
+    3, // 27 Torque
+    27, // 28 Volume
+];
+
+// The unit type whose display codes each money type uses, a line for each (000, 2.2.9 and Appendix A).
+const PER: [u8; 6] = [
+    5, // 101 MoneyPerArea
+    11, // 102 MoneyPerEnergy
+    16, // 103 MoneyPerLength
+    19, // 104 MoneyPerMass
+    25, // 105 MoneyPerDuration
+    28, // 106 MoneyPerVolume
+];
 
 // How many counts follow a field code.
 pub fn counts(code: usize) -> usize
@@ -85,51 +130,18 @@ pub fn width(code: usize) -> usize
 pub fn last(t: usize) -> usize
     ensures { λ r. ⌜ r ≡ getD lastRow t 0 ⌝ }
 {
-    match t {
-        0 => 0,
-        1 => 8,
-        2 => 1,
-        3 => 6,
-        4 => 3,
-        5 => 21,
-        6 => 1,
-        7 => 16,
-        8 => 7,
-        9 => 8,
-        10 => 8,
-        11 => 38,
-        12 => 1,
-        13 => 15,
-        14 => 6,
-        15 => 16,
-        16 => 21,
-        17 => 21,
-        18 => 21,
-        19 => 24,
-        20 => 15,
-        21 => 16,
-        22 => 13,
-        23 => 4,
-        24 => 4,
-        25 => 10,
-        26 => 15,
-        27 => 3,
-        28 => 27,
-        _ => 0,
+    if t < 29 {
+        return wide(LAST[t]);
     }
+    0
 }
 
 // The unit type whose display codes the money type 101 + k uses; 0 where there is none.
 pub fn per(k: usize) -> usize
     ensures { λ r. ⌜ r ≡ getD perRow k 0 ⌝ }
 {
-    match k {
-        0 => 5,
-        1 => 11,
-        2 => 16,
-        3 => 19,
-        4 => 25,
-        5 => 28,
-        _ => 0,
+    if k < 6 {
+        return wide(PER[k]);
     }
+    0
 }
