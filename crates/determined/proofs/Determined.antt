@@ -24,6 +24,7 @@ use Rattle.values.proofs.size.Reads as size
 use Rattle.values.proofs.values.Reads as values
 use Rattle.fields.proofs.outline.Reads as outline
 use Rattle.marks.proofs.mark.Reads as mark
+use Rattle.marks.proofs.mark_by.Reads as mark-by
 use Rattle.marks.proofs.marks.Reads as marks
 use Rattle.displays.proofs.currency_taken.Reads as currency-taken
 use Rattle.displays.proofs.display_taken.Reads as display-taken
@@ -37,6 +38,7 @@ use Rattle.tables.proofs.counts.Reads as counts
 use Rattle.tables.proofs.marking.Reads as marking
 use Rattle.tables.proofs.width.Reads as width
 use Rattle.tables.proofs.last.Reads as last
+use Rattle.tables.proofs.lasts.Reads as lasts
 use Rattle.tables.proofs.per.Reads as per
 use Rattle.magic.proofs.magic.Reads as magic
 use Rattle.header.proofs.header.Reads as header
@@ -155,6 +157,9 @@ width-result = equated width.Post (λ κs z e. z) _ (λ κs a z e p. p)
 pub last-result : Determines last.Post (λ κs z e. z)
 last-result = equated last.Post (λ κs z e. z) _ (λ κs a z e p. p)
 
+pub lasts-result : Determines lasts.Post (λ κs z e. z)
+lasts-result = equated lasts.Post (λ κs z e. z) _ (λ κs a z e p. p)
+
 pub per-result : Determines per.Post (λ κs z e. z)
 per-result = equated per.Post (λ κs z e. z) _ (λ κs a z e p. p)
 
@@ -188,6 +193,9 @@ display-taken-result = equated display-taken.Post (λ κs z e. z) _ (λ κs a z 
 -- The calls of crate marks.
 pub mark-result : Determines mark.Post (λ κs z e. z)
 mark-result = determined mark.Post (λ κs z e. z) (λ κs. judged) (λ κs. judged-apart) _ (λ κs a z e p. p)
+
+pub mark-by-result : Determines mark-by.Post (λ κs z e. z)
+mark-by-result = determined mark-by.Post (λ κs z e. z) (λ κs. judged) (λ κs. judged-apart) _ (λ κs a z e p. p)
 
 pub marks-result : Determines marks.Post (λ κs z e. z)
 marks-result = determined marks.Post (λ κs z e. z) (λ κs. judged) (λ κs. judged-apart) _ (λ κs a z e p. p)

@@ -1,1 +1,2 @@
 pub mod MarkCases
+pub mod ByLaws

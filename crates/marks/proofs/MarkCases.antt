@@ -10,24 +10,30 @@ use lib.ListN.{length, getD}
 use lib.Dec.{leb, eqb}
 use borrow.Author.Tests.{leb-true, eqb-true, eqb-false, le-leb, lt-leb, ne-eqb}
 use Rattle.sim0mq.specs.Answer.{fine, refused, byte, big}
-use Rattle.sim0mq.specs.Mark.{perRow, Kind, plain, money, moneyPer, unknown, kindOf, currencyTaken, displayTaken, currency, display, markRest, mark, marks}
+use Rattle.sim0mq.specs.Mark.{perRow, Kind, plain, money, moneyPer, unknown, kindOf, currencyTaken, currency, mark, marks}
 use Rattle.sim0mq.proofs.Rows.{allPass, pass-any}
+use Rattle.marks.specs.By.{displayBy, markRestBy, markBy}
 use Rattle.numbers.specs.Numbers.{numberAt}
 use Rattle.numbers.proofs.NumberCases.{number-there}
 
-module _ (s : List ℕ) where
-  pub display-short : (t at : ℕ) → length s ≤ at → display s t at ≡ refused 1 (length s)
-  unfolding display
+module _ (row s : List ℕ) where
+  pub display-short : (t at : ℕ) → length s ≤ at → displayBy row s t at ≡ refused 1 (length s)
+  unfolding displayBy
   display-short t at h = simp (lt-leb (at + 1) (length s) (omega arith))
 
-  pub display-over : (t at : ℕ) → at < length s → displayTaken t (byte s at) ≡ false → display s t at ≡ refused 12 at
-  unfolding display
+  pub display-over : (t at : ℕ) → at < length s → leb (byte s at) (getD row t 0) ≡ false → displayBy row s t at ≡ refused 12 at
+  unfolding displayBy
   display-over t at h k = simp (le-leb (at + 1) (length s) (omega arith), k)
 
-  pub display-fine : (t at : ℕ) → at < length s → displayTaken t (byte s at) ≡ true → display s t at ≡ fine (at + 1)
-  unfolding display
+  pub display-fine : (t at : ℕ) → at < length s → leb (byte s at) (getD row t 0) ≡ true → displayBy row s t at ≡ fine (at + 1)
+  unfolding displayBy
   display-fine t at h k = simp (le-leb (at + 1) (length s) (omega arith), k)
 
+  pub mark-short : (at : ℕ) → length s ≤ at → markBy row s at ≡ refused 1 (length s)
+  unfolding markBy
+  mark-short at h = simp (lt-leb (at + 1) (length s) (omega arith))
+
+module _ (s : List ℕ) where
   -- what was told of the number read is told of the two bytes
   pub currency-told : (at n : ℕ) (t r : Bool) → at + 2 ≤ length s → n ≡ numberAt s at 2 → t ≡ currencyTaken n → t ≡ r → currencyTaken (big s at 2) ≡ r
   currency-told at n t r h e f g = ap currencyTaken (sym (number-there s at 2 h (omega arith)) ∙ sym e) ∙ sym f ∙ g
@@ -43,10 +49,6 @@ module _ (s : List ℕ) where
   pub currency-fine : (at : ℕ) → at + 2 ≤ length s → currencyTaken (big s at 2) ≡ true → currency s at ≡ fine (at + 2)
   unfolding currency
   currency-fine at h k = simp (le-leb (at + 2) (length s) h, k)
-
-  pub mark-short : (at : ℕ) → length s ≤ at → mark s at ≡ refused 1 (length s)
-  unfolding mark
-  mark-short at h = simp (lt-leb (at + 1) (length s) (omega arith))
 
 -- the unit types of money per quantity are unit types
 pub per-known : (k : ℕ) → getD perRow k 0 < 29
@@ -75,67 +77,67 @@ unfolding kindOf
 kind-above u h = simp (lt-leb u 28 (omega arith), lt-leb u 99 (omega arith), ne-eqb u 100 (λ e. omega arith), lt-leb u 106 h)
 
 -- a mark whose unit type is u
-module _ (s : List ℕ) (at u : ℕ) (there : at < length s) (is : u ≡ byte s at) where
-  mark-of : (k : Kind) → kindOf u ≡ k → mark s at ≡ markRest s at k
-  unfolding mark
+module _ (row s : List ℕ) (at u : ℕ) (there : at < length s) (is : u ≡ byte s at) where
+  mark-of : (k : Kind) → kindOf u ≡ k → markBy row s at ≡ markRestBy row s at k
+  unfolding markBy
   mark-of k e = simp (le-leb (at + 1) (length s) (omega arith), ← is, e)
 
-  pub mark-plain : u ≤ 28 → mark s at ≡ display s u (at + 1)
-  unfolding markRest
+  pub mark-plain : u ≤ 28 → markBy row s at ≡ displayBy row s u (at + 1)
+  unfolding markRestBy
   mark-plain k = mark-of (plain u) (kind-plain u k)
 
-  pub mark-between : 28 < u → u ≤ 99 → mark s at ≡ refused 11 at
-  unfolding markRest
+  pub mark-between : 28 < u → u ≤ 99 → markBy row s at ≡ refused 11 at
+  unfolding markRestBy
   mark-between k l = mark-of unknown (kind-between u k l)
 
-  pub mark-above : 106 < u → mark s at ≡ refused 11 at
-  unfolding markRest
+  pub mark-above : 106 < u → markBy row s at ≡ refused 11 at
+  unfolding markRestBy
   mark-above k = mark-of unknown (kind-above u k)
 
-  pub mark-money : u ≡ 100 → mark s at ≡ currency s (at + 1)
-  unfolding markRest
+  pub mark-money : u ≡ 100 → markBy row s at ≡ currency s (at + 1)
+  unfolding markRestBy
   mark-money k = mark-of money (kind-money u k)
 
-  pub mark-per-fine : (t p : ℕ) → 100 < u → u ≤ 106 → t ≡ getD perRow (u - 101) 0 → currency s (at + 1) ≡ fine p → mark s at ≡ display s t p
-  unfolding markRest
+  pub mark-per-fine : (t p : ℕ) → 100 < u → u ≤ 106 → t ≡ getD perRow (u - 101) 0 → currency s (at + 1) ≡ fine p → markBy row s at ≡ displayBy row s t p
+  unfolding markRestBy
   mark-per-fine t p k l e q = mark-of (moneyPer (getD perRow (u - 101) 0)) (kind-per u k l) ∙ simp (q, e)
 
-  pub mark-per-stop : (k p : ℕ) → 100 < u → u ≤ 106 → currency s (at + 1) ≡ refused k p → mark s at ≡ refused k p
-  unfolding markRest
+  pub mark-per-stop : (k p : ℕ) → 100 < u → u ≤ 106 → currency s (at + 1) ≡ refused k p → markBy row s at ≡ refused k p
+  unfolding markRestBy
   mark-per-stop k p i l q = mark-of (moneyPer (getD perRow (u - 101) 0)) (kind-per u i l) ∙ simp q
 
 -- the same, where the most bytes that a mark has are there
-module _ (s : List ℕ) (at u : ℕ) (room : at + 4 ≤ length s) (is : u ≡ byte s at) where
-  pub roomy-plain : u ≤ 28 → displayTaken u (byte s (at + 1)) ≡ true → mark s at ≡ fine (at + 2)
-  roomy-plain k d = mark-plain s at u (omega arith) is k ∙ display-fine s u (at + 1) (omega arith) d ∙ ap fine (omega arith)
+module _ (row s : List ℕ) (at u : ℕ) (room : at + 4 ≤ length s) (is : u ≡ byte s at) where
+  pub roomy-plain : u ≤ 28 → leb (byte s (at + 1)) (getD row u 0) ≡ true → markBy row s at ≡ fine (at + 2)
+  roomy-plain k d = mark-plain row s at u (omega arith) is k ∙ display-fine row s u (at + 1) (omega arith) d ∙ ap fine (omega arith)
 
-  pub roomy-plain-over : u ≤ 28 → displayTaken u (byte s (at + 1)) ≡ false → mark s at ≡ refused 12 (at + 1)
-  roomy-plain-over k d = mark-plain s at u (omega arith) is k ∙ display-over s u (at + 1) (omega arith) d
+  pub roomy-plain-over : u ≤ 28 → leb (byte s (at + 1)) (getD row u 0) ≡ false → markBy row s at ≡ refused 12 (at + 1)
+  roomy-plain-over k d = mark-plain row s at u (omega arith) is k ∙ display-over row s u (at + 1) (omega arith) d
 
-  pub roomy-currency-over : 99 < u → u ≤ 106 → currencyTaken (big s (at + 1) 2) ≡ false → mark s at ≡ refused 12 (at + 1)
+  pub roomy-currency-over : 99 < u → u ≤ 106 → currencyTaken (big s (at + 1) 2) ≡ false → markBy row s at ≡ refused 12 (at + 1)
   roomy-currency-over k l d = go (eqb u 100) refl
     where
       over : currency s (at + 1) ≡ refused 12 (at + 1)
       over = currency-over s (at + 1) (omega arith) d
 
-      go : (t : Bool) → eqb u 100 ≡ t → mark s at ≡ refused 12 (at + 1)
-      go true e = mark-money s at u (omega arith) is (eqb-true u 100 e) ∙ over
-      go false e = let other = eqb-false u 100 e in mark-per-stop s at u (omega arith) is 12 (at + 1) (omega arith) l over
+      go : (t : Bool) → eqb u 100 ≡ t → markBy row s at ≡ refused 12 (at + 1)
+      go true e = mark-money row s at u (omega arith) is (eqb-true u 100 e) ∙ over
+      go false e = let other = eqb-false u 100 e in mark-per-stop row s at u (omega arith) is 12 (at + 1) (omega arith) l over
 
   taken : currencyTaken (big s (at + 1) 2) ≡ true → currency s (at + 1) ≡ fine (at + 3)
   taken d = currency-fine s (at + 1) (omega arith) d ∙ ap fine (omega arith)
 
-  pub roomy-money : u ≡ 100 → currencyTaken (big s (at + 1) 2) ≡ true → mark s at ≡ fine (at + 3)
-  roomy-money k d = mark-money s at u (omega arith) is k ∙ taken d
+  pub roomy-money : u ≡ 100 → currencyTaken (big s (at + 1) 2) ≡ true → markBy row s at ≡ fine (at + 3)
+  roomy-money k d = mark-money row s at u (omega arith) is k ∙ taken d
 
   pub roomy-per : (t : ℕ) → 100 < u → u ≤ 106 → t ≡ getD perRow (u - 101) 0 → currencyTaken (big s (at + 1) 2) ≡ true
-      → displayTaken t (byte s (at + 3)) ≡ true → mark s at ≡ fine (at + 4)
+      → leb (byte s (at + 3)) (getD row t 0) ≡ true → markBy row s at ≡ fine (at + 4)
   roomy-per t k l e d f =
-      mark-per-fine s at u (omega arith) is t (at + 3) k l e (taken d) ∙ display-fine s t (at + 3) (omega arith) f ∙ ap fine (omega arith)
+      mark-per-fine row s at u (omega arith) is t (at + 3) k l e (taken d) ∙ display-fine row s t (at + 3) (omega arith) f ∙ ap fine (omega arith)
 
   pub roomy-per-over : (t : ℕ) → 100 < u → u ≤ 106 → t ≡ getD perRow (u - 101) 0 → currencyTaken (big s (at + 1) 2) ≡ true
-      → displayTaken t (byte s (at + 3)) ≡ false → mark s at ≡ refused 12 (at + 3)
-  roomy-per-over t k l e d f = mark-per-fine s at u (omega arith) is t (at + 3) k l e (taken d) ∙ display-over s t (at + 3) (omega arith) f
+      → leb (byte s (at + 3)) (getD row t 0) ≡ false → markBy row s at ≡ refused 12 (at + 3)
+  roomy-per-over t k l e d f = mark-per-fine row s at u (omega arith) is t (at + 3) k l e (taken d) ∙ display-over row s t (at + 3) (omega arith) f
 
 -- the marks from a place on: none left, one more, or a refusal
 module _ (s : List ℕ) where

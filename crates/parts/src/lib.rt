@@ -14,9 +14,10 @@ use fields::Field;
 use heads::Asked;
 use heads::Headed;
 use heads::head;
-use marks::mark;
+use marks::mark_by;
 use sim0mq::Judged;
 use sim0mq::Refusal;
+use tables::lasts;
 use values::values;
 
 // The most bytes that a message has.
@@ -81,6 +82,7 @@ pub fn part(s: &[u8], base: usize, n: usize, k: usize, kept: &mut [u16]) -> Judg
     ensures kept { λ _. ⌜ now (kept .exit) ≡ keptPart (now (s .entry)) base n k (now (kept .entry)) ⌝ }
 {
     let many = rows(base, s.len(), kept.len());
+    let last = lasts();
     let mut left = n;
     let mut at: usize = 0;
     let mut steps: usize = 0;
@@ -100,7 +102,7 @@ pub fn part(s: &[u8], base: usize, n: usize, k: usize, kept: &mut [u16]) -> Judg
                 let mut marked = h.marked;
                 let mut p = h.next;
                 while 0 < marked {
-                    match mark(s, p) {
+                    match mark_by(s, p, &last) {
                         Judged::Refused(of_mark) => break 'fields Judged::Refused(of_mark),
                         Judged::Accepted(q) => p = q,
                     }

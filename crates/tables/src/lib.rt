@@ -126,6 +126,13 @@ pub fn width(code: usize) -> usize
     2
 }
 
+// The row of last display codes, for a caller who looks many of them up: the language lays it out where it is named.
+pub fn lasts() -> [u8; 29]
+    ensures { λ r. ⌜ r ≡ lastRow ⌝ }
+{
+    LAST
+}
+
 // The last display code of a unit type; 0 where it has none of its own.
 pub fn last(t: usize) -> usize
     ensures { λ r. ⌜ r ≡ getD lastRow t 0 ⌝ }

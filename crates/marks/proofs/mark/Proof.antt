@@ -1,31 +1,18 @@
--- Without a byte it is refused; the two ways, with room for the longest mark and with less, answer the same definition.
-use native.Mathlib.Omega.{arith}
+-- By the format's own row, a mark is the format's.
 use borrow.Author.Needs.{needs}
-use mathlib.Core.Path.{sym, _∙_}
-use Rattle.marks.proofs.MarkCases.{mark-short}
+use mathlib.Core.Path.{_∙_}
+use Rattle.marks.proofs.ByLaws.{mark-by-last}
 use Rattle.marks.proofs.mark.Statement.{statement}
 use Rattle.marks.proofs.mark.Tie as tie
 
-refuse-requires : tie.Need-refuse-requires
-refuse-requires c κs = search needs
+lasts-requires : tie.Need-lasts-requires
+lasts-requires c κs = search needs
+
+mark-by-requires : tie.Need-mark-by-requires
+mark-by-requires c κs = search needs
 
 returns : tie.Need-returns
-returns c = c .refuse .ensures ∙ sym (mark-short _ _ (omega arith))
-
-sub-if2 : tie.Need-sub-if2
-sub-if2 c = search needs
-
-roomy-requires : tie.Need-roomy-requires
-roomy-requires c κs = search needs
-
-returns-2 : tie.Need-returns-2
-returns-2 c = search needs
-
-scant-requires : tie.Need-scant-requires
-scant-requires c κs = search needs
-
-returns-3 : tie.Need-returns-3
-returns-3 c = search needs
+returns c = c .mark-by .ensures ∙ mark-by-last _ _ _ (c .before .before .lasts .ensures)
 
 pub mark-spec : {M : Type 1} → statement M
-mark-spec = tie.close (tie.spec refuse-requires returns sub-if2 roomy-requires returns-2 scant-requires returns-3)
+mark-spec = tie.close (tie.spec lasts-requires mark-by-requires returns)

@@ -1,9 +1,10 @@
 -- Each return is a case of the definition, told by the unit type's kind; no item's room is asked for again.
+use Prim.Native.Nat.{ℕ, _-_, _<_}
 use native.Mathlib.Omega.{arith}
 use borrow.Author.Needs.{needs}
-use borrow.Author.Tests.{not-true, not-false}
-use mathlib.Core.Path.{sym, _∙_}
-use Rattle.marks.proofs.MarkCases.{currency-told, mark-between, mark-above, roomy-plain, roomy-plain-over, roomy-currency-over, roomy-money, roomy-per, roomy-per-over}
+use borrow.Author.Tests.{not-true, not-false, le-leb, lt-leb}
+use mathlib.Core.Path.{sym, _∙_, subst}
+use Rattle.marks.proofs.MarkCases.{currency-told, per-known, mark-between, mark-above, roomy-plain, roomy-plain-over, roomy-currency-over, roomy-money, roomy-per, roomy-per-over}
 use Rattle.marks.proofs.roomy.Statement.{statement}
 use Rattle.marks.proofs.roomy.Tie as tie
 
@@ -13,21 +14,21 @@ shared-slice-read-wide c = search needs
 wide-requires : tie.Need-wide-requires
 wide-requires c κs = search needs
 
-add-display-taken : tie.Need-add-display-taken
-add-display-taken c = search needs
+add-if2 : tie.Need-add-if2
+add-if2 c = search needs
 
-shared-slice-read-display-taken : tie.Need-shared-slice-read-display-taken
-shared-slice-read-display-taken c = search needs
+shared-slice-read-if2 : tie.Need-shared-slice-read-if2
+shared-slice-read-if2 c = search needs
 
-display-taken-requires : tie.Need-display-taken-requires
-display-taken-requires c κs = search needs
+element-copy-out-if2 : tie.Need-element-copy-out-if2
+element-copy-out-if2 c = search needs
 
-add-t11 : tie.Need-add-t11
-add-t11 c = search needs
+add-t16 : tie.Need-add-t16
+add-t16 c = search needs
 
 returns : tie.Need-returns
 returns c =
-    sym (roomy-plain _ _ _ (omega arith) (c .before .before .before .before .wide .ensures .0) (omega arith) (sym (c .before .display-taken .ensures) ∙ c .if2 .taken))
+    sym (roomy-plain _ _ _ _ (omega arith) (c .before .before .before .before .wide .ensures .0) (omega arith) (le-leb _ _ (c .if2 .taken)))
 
 add-refuse : tie.Need-add-refuse
 add-refuse c = search needs
@@ -38,19 +39,19 @@ refuse-requires c κs = search needs
 returns-2 : tie.Need-returns-2
 returns-2 c =
     c .refuse .ensures
-    ∙ sym (roomy-plain-over _ _ _ (omega arith) (c .before .before .before .before .before .wide .ensures .0) (omega arith) (sym (c .before .before .display-taken .ensures) ∙ c .before .if2 .left))
+    ∙ sym (roomy-plain-over _ _ _ _ (omega arith) (c .before .before .before .before .before .wide .ensures .0) (omega arith) (lt-leb _ _ (c .before .if2 .left)))
 
 refuse-requires-2 : tie.Need-refuse-requires-2
 refuse-requires-2 c κs = search needs
 
 returns-3 : tie.Need-returns-3
-returns-3 c = c .refuse2 .ensures ∙ sym (mark-between _ _ (c .before .before .before .wide .result) (omega arith) (c .before .before .before .wide .ensures .0) (omega arith) (omega arith))
+returns-3 c = c .refuse2 .ensures ∙ sym (mark-between _ _ _ (c .before .before .before .wide .result) (omega arith) (c .before .before .before .wide .ensures .0) (omega arith) (omega arith))
 
 refuse-requires-3 : tie.Need-refuse-requires-3
 refuse-requires-3 c κs = search needs
 
 returns-4 : tie.Need-returns-4
-returns-4 c = c .refuse3 .ensures ∙ sym (mark-above _ _ (c .before .before .before .before .wide .result) (omega arith) (c .before .before .before .before .wide .ensures .0) (omega arith))
+returns-4 c = c .refuse3 .ensures ∙ sym (mark-above _ _ _ (c .before .before .before .before .wide .result) (omega arith) (c .before .before .before .before .wide .ensures .0) (omega arith))
 
 add-number : tie.Need-add-number
 add-number c = search needs
@@ -71,16 +72,16 @@ returns-5 : tie.Need-returns-5
 returns-5 c =
     c .refuse4 .ensures
     ∙ sym
-    (roomy-currency-over _ _ (c .before .before .before .before .before .before .before .wide .result) (omega arith) (c .before .before .before .before .before .before .before .wide .ensures .0) (omega arith) (omega arith)
+    (roomy-currency-over _ _ _ (c .before .before .before .before .before .before .before .wide .result) (omega arith) (c .before .before .before .before .before .before .before .wide .ensures .0) (omega arith) (omega arith)
     (currency-told _ _ _ _ _ (omega arith) (c .before .before .before .number .ensures .0) (c .before .before .currency-taken .ensures) (not-true _ (c .before .if5 .taken))))
 
-add-t16 : tie.Need-add-t16
-add-t16 c = search needs
+add-t21 : tie.Need-add-t21
+add-t21 c = search needs
 
 returns-6 : tie.Need-returns-6
 returns-6 c =
     sym
-    (roomy-money _ _ (c .before .before .before .before .before .before .before .wide .result) (omega arith) (c .before .before .before .before .before .before .before .wide .ensures .0) (c .if6 .taken)
+    (roomy-money _ _ _ (c .before .before .before .before .before .before .before .wide .result) (omega arith) (c .before .before .before .before .before .before .before .wide .ensures .0) (c .if6 .taken)
     (currency-told _ _ _ _ _ (omega arith) (c .before .before .before .number .ensures .0) (c .before .before .currency-taken .ensures) (not-false _ (c .before .if5 .left))))
 
 sub-per : tie.Need-sub-per
@@ -89,23 +90,23 @@ sub-per c = search needs
 per-requires : tie.Need-per-requires
 per-requires c κs = search needs
 
-add-display-taken-2 : tie.Need-add-display-taken-2
-add-display-taken-2 c = search needs
+add-if7 : tie.Need-add-if7
+add-if7 c = search needs
 
-shared-slice-read-display-taken-2 : tie.Need-shared-slice-read-display-taken-2
-shared-slice-read-display-taken-2 c = search needs
+shared-slice-read-if7 : tie.Need-shared-slice-read-if7
+shared-slice-read-if7 c = search needs
 
-display-taken-requires-2 : tie.Need-display-taken-requires-2
-display-taken-requires-2 c κs = search needs
+element-copy-out-if7 : tie.Need-element-copy-out-if7
+element-copy-out-if7 c = subst (λ (t : ℕ). t < 29) (sym (c .before .per .ensures)) (per-known (c .before .before .before .before .before .before .before .before .before .wide .result - 101))
 
-add-t20 : tie.Need-add-t20
-add-t20 c = search needs
+add-t26 : tie.Need-add-t26
+add-t26 c = search needs
 
 returns-7 : tie.Need-returns-7
 returns-7 c =
     sym
-    (roomy-per _ _ (c .before .before .before .before .before .before .before .before .before .before .before .wide .result) (omega arith) (c .before .before .before .before .before .before .before .before .before .before .before .wide .ensures .0) _ (omega arith) (omega arith) (c .before .before .before .per .ensures)
-    (currency-told _ _ _ _ _ (omega arith) (c .before .before .before .before .before .before .before .number .ensures .0) (c .before .before .before .before .before .before .currency-taken .ensures) (not-false _ (c .before .before .before .before .before .if5 .left))) (sym (c .before .display-taken2 .ensures) ∙ c .if7 .taken))
+    (roomy-per _ _ _ (c .before .before .before .before .before .before .before .before .before .before .before .wide .result) (omega arith) (c .before .before .before .before .before .before .before .before .before .before .before .wide .ensures .0) _ (omega arith) (omega arith) (c .before .before .before .per .ensures)
+    (currency-told _ _ _ _ _ (omega arith) (c .before .before .before .before .before .before .before .number .ensures .0) (c .before .before .before .before .before .before .currency-taken .ensures) (not-false _ (c .before .before .before .before .before .if5 .left))) (le-leb _ _ (c .if7 .taken)))
 
 add-refuse-3 : tie.Need-add-refuse-3
 add-refuse-3 c = search needs
@@ -117,8 +118,8 @@ returns-8 : tie.Need-returns-8
 returns-8 c =
     c .refuse5 .ensures
     ∙ sym
-    (roomy-per-over _ _ (c .before .before .before .before .before .before .before .before .before .before .before .before .wide .result) (omega arith) (c .before .before .before .before .before .before .before .before .before .before .before .before .wide .ensures .0) _ (omega arith) (omega arith) (c .before .before .before .before .per .ensures)
-    (currency-told _ _ _ _ _ (omega arith) (c .before .before .before .before .before .before .before .before .number .ensures .0) (c .before .before .before .before .before .before .before .currency-taken .ensures) (not-false _ (c .before .before .before .before .before .before .if5 .left))) (sym (c .before .before .display-taken2 .ensures) ∙ c .before .if7 .left))
+    (roomy-per-over _ _ _ (c .before .before .before .before .before .before .before .before .before .before .before .before .wide .result) (omega arith) (c .before .before .before .before .before .before .before .before .before .before .before .before .wide .ensures .0) _ (omega arith) (omega arith) (c .before .before .before .before .per .ensures)
+    (currency-told _ _ _ _ _ (omega arith) (c .before .before .before .before .before .before .before .before .number .ensures .0) (c .before .before .before .before .before .before .before .currency-taken .ensures) (not-false _ (c .before .before .before .before .before .before .if5 .left))) (lt-leb _ _ (c .before .if7 .left)))
 
 pub roomy-spec : {M : Type 1} → statement M
 roomy-spec =
@@ -126,10 +127,10 @@ roomy-spec =
     (tie.spec
     shared-slice-read-wide
     wide-requires
-    add-display-taken
-    shared-slice-read-display-taken
-    display-taken-requires
-    add-t11
+    add-if2
+    shared-slice-read-if2
+    element-copy-out-if2
+    add-t16
     returns
     add-refuse
     refuse-requires
@@ -144,14 +145,14 @@ roomy-spec =
     add-refuse-2
     refuse-requires-4
     returns-5
-    add-t16
+    add-t21
     returns-6
     sub-per
     per-requires
-    add-display-taken-2
-    shared-slice-read-display-taken-2
-    display-taken-requires-2
-    add-t20
+    add-if7
+    shared-slice-read-if7
+    element-copy-out-if7
+    add-t26
     returns-7
     add-refuse-3
     refuse-requires-5

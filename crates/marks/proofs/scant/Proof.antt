@@ -21,13 +21,13 @@ display-requires : tie.Need-display-requires
 display-requires c κs = search needs
 
 returns : tie.Need-returns
-returns c = c .display .ensures ∙ sym (mark-plain _ _ _ (omega arith) (c .before .before .wide .ensures .0) (omega arith))
+returns c = c .display .ensures ∙ sym (mark-plain _ _ _ _ (omega arith) (c .before .before .wide .ensures .0) (omega arith))
 
 refuse-requires : tie.Need-refuse-requires
 refuse-requires c κs = search needs
 
 returns-2 : tie.Need-returns-2
-returns-2 c = c .refuse .ensures ∙ sym (mark-between _ _ (c .before .before .before .wide .result) (omega arith) (c .before .before .before .wide .ensures .0) (omega arith) (omega arith))
+returns-2 c = c .refuse .ensures ∙ sym (mark-between _ _ _ (c .before .before .before .wide .result) (omega arith) (c .before .before .before .wide .ensures .0) (omega arith) (omega arith))
 
 add-currency : tie.Need-add-currency
 add-currency c = search needs
@@ -36,13 +36,13 @@ currency-requires : tie.Need-currency-requires
 currency-requires c κs = search needs
 
 returns-3 : tie.Need-returns-3
-returns-3 c = c .currency .ensures ∙ sym (mark-money _ _ (c .before .before .before .before .wide .result) (omega arith) (c .before .before .before .before .wide .ensures .0) (c .before .if3 .taken))
+returns-3 c = c .currency .ensures ∙ sym (mark-money _ _ _ (c .before .before .before .before .wide .result) (omega arith) (c .before .before .before .before .wide .ensures .0) (c .before .if3 .taken))
 
 refuse-requires-2 : tie.Need-refuse-requires-2
 refuse-requires-2 c κs = search needs
 
 returns-4 : tie.Need-returns-4
-returns-4 c = c .refuse2 .ensures ∙ sym (mark-above _ _ (c .before .before .before .before .before .wide .result) (omega arith) (c .before .before .before .before .before .wide .ensures .0) (omega arith))
+returns-4 c = c .refuse2 .ensures ∙ sym (mark-above _ _ _ (c .before .before .before .before .before .wide .result) (omega arith) (c .before .before .before .before .before .wide .ensures .0) (omega arith))
 
 add-currency-2 : tie.Need-add-currency-2
 add-currency-2 c = search needs
@@ -69,13 +69,13 @@ returns-5 : tie.Need-returns-5
 returns-5 c =
     c .display2 .ensures
     ∙ sym
-    (mark-per-fine _ _ (c .before .before .before .before .before .before .before .before .before .before .wide .result) (omega arith) (c .before .before .before .before .before .before .before .before .before .before .wide .ensures .0) _ _ (omega arith) (omega arith) (c .before .per .ensures)
+    (mark-per-fine _ _ _ (c .before .before .before .before .before .before .before .before .before .before .wide .result) (omega arith) (c .before .before .before .before .before .before .before .before .before .before .wide .ensures .0) _ _ (omega arith) (omega arith) (c .before .per .ensures)
     (sym (c .before .before .before .before .before .currency2 .ensures) ∙ ap judged (c .before .before .before .p .given .1)))
 
 returns-6 : tie.Need-returns-6
 returns-6 c =
     sym
-    (mark-per-stop _ _ (c .before .before .before .before .before .before .before .before .wide .result) (omega arith) (c .before .before .before .before .before .before .before .before .wide .ensures .0) _ _ (omega arith) (omega arith)
+    (mark-per-stop _ _ _ (c .before .before .before .before .before .before .before .before .wide .result) (omega arith) (c .before .before .before .before .before .before .before .before .wide .ensures .0) _ _ (omega arith) (omega arith)
     (sym (c .before .before .before .currency2 .ensures) ∙ ap judged (c .before .r .given .1)))
 
 pub scant-spec : {M : Type 1} → statement M

@@ -14,20 +14,21 @@ use Rattle.heads.specs.Heads.{headed}
 use Rattle.parts.specs.Parts.{stepsFrom, partSteps}
 use Rattle.parts.specs.Kept.{front, keptAll, keptPart}
 use Rattle.marks.proofs.MarkCases.{marks-done, marks-more, marks-stop}
+use Rattle.marks.proofs.ByLaws.{mark-by-last}
 use Rattle.parts.proofs.PartCases.{mark-goes, head-goes, values-goes, field-head-stop, field-mark-stop, field-values-stop, field-taken, taken-end, field-small, steps-over, steps-end, steps-stop, steps-more}
 use Rattle.parts.proofs.KeptCases.{rows-room, rows-some, kept-start, kept-end, kept-stop, kept-more}
 use Rattle.parts.proofs.part.Statement.{statement}
 use Rattle.parts.proofs.part.Tie as tie
 
 abbrev Inv-loop : tie.InvT-loop
-Inv-loop s base n k kept many left at steps₀ h marked₀ p₀ steps marked p =
+Inv-loop s base n k kept many last left at steps₀ h marked₀ p₀ steps marked p =
     (marks s (h .marked) (h .next) ≡ marks s marked p) × (steps + marked ≡ steps₀ + h .marked) × (steps + 1 ≤ p) × (p ≤ length s)
 
 abbrev μ-loop : tie.MeasureT-loop
-μ-loop s base n k kept many left at steps₀ h marked₀ p₀ steps marked p = marked
+μ-loop s base n k kept many last left at steps₀ h marked₀ p₀ steps marked p = marked
 
 abbrev Inv-fields : tie.InvT-fields
-Inv-fields s base n k kept₀ many left₀ at₀ steps₀ kept left at steps =
+Inv-fields s base n k kept₀ many last left₀ at₀ steps₀ kept left at steps =
     (partSteps s n ≡ stepsFrom s left at steps)
     × (steps ≤ at)
     × (at ≤ length s)
@@ -37,16 +38,19 @@ Inv-fields s base n k kept₀ many left₀ at₀ steps₀ kept left at steps =
     × (length s < 18446744073709551616)
 
 abbrev μ-fields : tie.MeasureT-fields
-μ-fields s base n k kept₀ many left₀ at₀ steps₀ kept left at steps = left
+μ-fields s base n k kept₀ many last left₀ at₀ steps₀ kept left at steps = left
 
 rows-requires : tie.Need-rows-requires Inv-loop μ-loop Inv-fields μ-fields
 rows-requires c κs = search needs
 
+lasts-requires : tie.Need-lasts-requires Inv-loop μ-loop Inv-fields μ-fields
+lasts-requires c κs = search needs
+
 fields-holds : tie.Need-fields-holds Inv-loop μ-loop Inv-fields μ-fields
 unfolding partSteps
 fields-holds c =
-    let fits = c .before .before .shared-slice-known .given in
-    (refl, omega arith, omega arith, kept-start _ _ _ _ _ _ (c .rows .ensures), omega arith, refl, omega arith)
+    let fits = c .before .before .before .shared-slice-known .given in
+    (refl, omega arith, omega arith, kept-start _ _ _ _ _ _ (c .before .rows .ensures), omega arith, refl, omega arith)
 
 head-requires : tie.Need-head-requires Inv-loop μ-loop Inv-fields μ-fields
 head-requires c κs = search needs
@@ -64,8 +68,8 @@ loop-holds c =
     let m = g .1 in
     (refl, refl, omega arith, omega arith)
 
-mark-requires : tie.Need-mark-requires Inv-loop μ-loop Inv-fields μ-fields
-mark-requires c κs = search needs
+mark-by-requires : tie.Need-mark-by-requires Inv-loop μ-loop Inv-fields μ-fields
+mark-by-requires c κs = search needs
 
 enum-known-of-mark : tie.Need-enum-known-of-mark Inv-loop μ-loop Inv-fields μ-fields
 enum-known-of-mark c = search needs
@@ -84,11 +88,12 @@ loop-less c = search needs
 
 loop-again : tie.Need-loop-again Inv-loop μ-loop Inv-fields μ-fields
 loop-again c =
-    let taken = sym (c .before .before .before .mark .ensures) ∙ ap judged (c .before .q .given .1) in
+    let by-last = mark-by-last _ _ _ (c .before .before .before .before .before .before .before .before .before .before .before .before .before .lasts .ensures) in
+    let taken = sym by-last ∙ sym (c .before .before .before .mark-by .ensures) ∙ ap judged (c .before .q .given .1) in
     let g = mark-goes _ _ _ taken in
     let l = g .0 in
     let m = g .1 in
-    (c .before .before .before .before .before .loop .inv .0 ∙ marks-more _ _ _ _ _ (omega arith) taken, omega arith, omega arith, omega arith)
+    (c .before .before .before .before .before .before .loop .inv .0 ∙ marks-more _ _ _ _ _ (omega arith) taken, omega arith, omega arith, omega arith)
 
 values-requires : tie.Need-values-requires Inv-loop μ-loop Inv-fields μ-fields
 values-requires c κs = search needs
@@ -117,8 +122,8 @@ keep-requires c κs =
     let marked = c .before .before .before .before .before .before .before .loop .inv .0 ∙ marks-done _ _ _ (omega arith) in
     let valued = sym (c .before .before .before .before .before .values .ensures) ∙ ap judged (c .before .before .before .e .given .1) in
     let accepted = field-taken _ _ _ headed-as _ marked _ valued in
-    let args = c .before .before .before .before .before .before .before .before .before .before .before .before .before .before .before .before .before .args in
-    let many = c .before .before .before .before .before .before .before .before .before .before .before .before .before .before .rows .ensures in
+    let args = c .before .before .before .before .before .before .before .before .before .before .before .before .before .before .before .before .before .before .args in
+    let many = c .before .before .before .before .before .before .before .before .before .before .before .before .before .before .before .rows .ensures in
     let long = c .before .before .before .before .before .before .before .before .before .before .before .before .before .fields .inv .5 in
     let room = rows-room (args .base + length (args .s .now)) (length (args .kept .now)) in
     (omega arith, λ some. field-small _ _ _ _ (rows-some _ _ (subst (λ (m : ℕ). 0 < m) many some)) (accepted ∙ ap fine (sym (c .found .ensures))))
@@ -149,7 +154,7 @@ fields-again c =
     let within = g .1 in
     let counted = c .before .before .before .before .before .before .before .before .before .before .loop .inv .1 in
     let less = c .before .before .before .before .before .before .before .before .before .before .loop .inv .2 in
-    let n = c .before .before .before .before .before .before .before .before .before .before .before .before .before .before .before .before .before .before .before .before .args .n in
+    let n = c .before .before .before .before .before .before .before .before .before .before .before .before .before .before .before .before .before .before .before .before .before .args .n in
     let left = c .before .before .before .before .before .before .before .before .before .before .before .before .before .before .before .before .fields .left in
     let kept = kept-more _ _ _ _ _ _ _ _ _ (inv .3) (left - 1) (n - (left - 1)) _ _ _ _ (omega arith) accepted ends (omega arith) (c .before .before .before .found .ensures) (c .before .before .keep .ensures) in
     let fewer = inv .4 in
@@ -185,11 +190,13 @@ same-length-4 c = search needs
 
 returns-4 : tie.Need-returns-4 Inv-loop μ-loop Inv-fields μ-fields
 returns-4 c =
-    let headed-as = sym (c .before .before .before .before .before .before .before .before .before .head .ensures) ∙ ap headed (c .before .before .before .before .before .before .before .h .given .1) in
-    let at-mark = c .before .before .before .before .before .loop .inv .0 ∙ marks-stop _ _ _ _ _ (omega arith) (sym (c .before .before .before .mark .ensures) ∙ ap judged (c .before .of-mark .given .1)) in
+    let headed-as = sym (c .before .before .before .before .before .before .before .before .before .before .head .ensures) ∙ ap headed (c .before .before .before .before .before .before .before .before .h .given .1) in
+    let by-last = mark-by-last _ _ _ (c .before .before .before .before .before .before .before .before .before .before .before .before .before .lasts .ensures) in
+    let told = sym by-last ∙ sym (c .before .before .before .mark-by .ensures) ∙ ap judged (c .before .of-mark .given .1) in
+    let at-mark = c .before .before .before .before .before .before .loop .inv .0 ∙ marks-stop _ _ _ _ _ (omega arith) told in
     let stopped = field-mark-stop _ _ _ headed-as _ _ at-mark in
-    let inv = c .before .before .before .before .before .before .before .before .before .before .before .fields .inv in
-    ((sym (inv .0 ∙ steps-stop _ _ _ _ _ _ (c .before .before .before .before .before .before .before .before .before .before .if1 .left) stopped), tt), kept-stop _ _ _ _ _ _ _ _ _ (inv .3) _ _ stopped)
+    let inv = c .before .before .before .before .before .before .before .before .before .before .before .before .fields .inv in
+    ((sym (inv .0 ∙ steps-stop _ _ _ _ _ _ (c .before .before .before .before .before .before .before .before .before .before .before .if1 .left) stopped), tt), kept-stop _ _ _ _ _ _ _ _ _ (inv .3) _ _ stopped)
 
 same-length-5 : tie.Need-same-length-5 Inv-loop μ-loop Inv-fields μ-fields
 same-length-5 c = search needs
@@ -211,12 +218,13 @@ part-spec =
     Inv-fields
     μ-fields
     rows-requires
+    lasts-requires
     fields-holds
     head-requires
     enum-known-r
     enum-known-h
     loop-holds
-    mark-requires
+    mark-by-requires
     enum-known-of-mark
     enum-known-q
     sub-marked
