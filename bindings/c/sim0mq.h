@@ -9,7 +9,7 @@
  * Answers are numbers in `answer`, which the caller lends. A call returns
  *
  *     0          granted
- *     1 to 17    refused; the number is one of the table below
+ *     1 to 19    refused; the number is one of the table below
  *     255        `answer` is too short for the call's numbers (SIM0MQ_..._NUMBERS); nothing at all is written
  *
  * answer[0] is the returned number, and answer[1] the place of the fault, 0 where the call is granted. On a refusal the call's other numbers are 0
@@ -27,12 +27,13 @@
  *     9    field code above 32                                         that byte
  *     10   Boolean byte above 1                                        that byte
  *     11   unit type unknown                                           that byte
- *     12   currency or display code outside its range                  its first byte
+ *     12   display code outside its range                              that byte
  *     13   bytes after the last item                                   the first of them
  *     14   lent output too short                                       0
  *     15   writer call that does not fit its state                     0
  *     16   no field k                                                  0
  *     17   value not of the kind asked or allowed                      0
+ *     19   currency code outside its range                             its first byte
  */
 #ifndef SIM0MQ_H
 #define SIM0MQ_H
@@ -85,7 +86,7 @@ extern "C" {
  * The table gets five numbers for each field: code, place of the code byte, place of the first value byte, number of value bytes, number of marks; its
  * later numbers stay.
  * Refusals, in the order of reading: 8; the frames' (1 to 7); 14 where the table has fewer than five numbers for each declared field; the fields' (1, 5,
- * 9 to 12); 13. Refused, the table is as it was. A table of SIM0MQ_MOST_FIELDS * SIM0MQ_ROW_NUMBERS numbers is enough for every message.
+ * 9 to 12, 19); 13. Refused, the table is as it was. A table of SIM0MQ_MOST_FIELDS * SIM0MQ_ROW_NUMBERS numbers is enough for every message.
  */
 uint32_t sim0mq_read(const uint8_t *message, size_t message_len, uint32_t *table, size_t table_len, uint64_t *answer, size_t answer_len);
 

@@ -131,7 +131,7 @@ impl<'a> Scan<'a> {
             _ => return no(11, self.at - 1),
         };
         if unit >= 100 && !(1..=1000).contains(&self.number(2)?) {
-            return no(12, self.at - 2);
+            return no(19, self.at - 2);
         }
         if let Some(shown) = shown {
             let code = self.take(1)?[0];

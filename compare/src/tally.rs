@@ -34,7 +34,7 @@ const HEADS: [&str; 9] =
 /// Counts of answers by call and number.
 #[derive(Clone, Debug, Default)]
 pub struct Tally {
-    counts: [[u64; 9]; 18],
+    counts: [[u64; 9]; 20],
     short: u64,
     unknown: u64,
 }
@@ -58,7 +58,7 @@ impl Tally {
     /// The least reached refusal and how often it was reached.
     #[must_use]
     pub fn least(&self) -> (usize, u64) {
-        let totals = (1..=17).map(|number| (number, self.total(number)));
+        let totals = (1..=17).chain([19]).map(|number| (number, self.total(number)));
         totals.min_by_key(|&(_, total)| total).unwrap_or((0, 0))
     }
 }

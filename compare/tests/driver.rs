@@ -63,7 +63,7 @@ impl Subject for Faulty {
 
     fn read(&self, message: &[u8], table: &mut [u32], answer: &mut [u64]) -> u32 {
         let returned = Peer.read(message, table, answer);
-        if let (Fault::TableEntry, 1..=17, Some(entry)) = (self.0, returned, table.first_mut()) {
+        if let (Fault::TableEntry, 1..=19, Some(entry)) = (self.0, returned, table.first_mut()) {
             *entry ^= 1;
         }
         returned
@@ -122,7 +122,7 @@ fn peer_and_plain_agree() {
             panic!("{difference}");
         }
     }
-    for number in 1..=17 {
+    for number in (1..=17).chain([19]) {
         assert!(driver.tally().total(number) >= 20, "refusal {number} is hardly reached");
     }
 }

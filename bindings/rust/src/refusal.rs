@@ -3,7 +3,7 @@
 use std::error::Error;
 use std::fmt;
 
-/// Why a call was refused, as one of the seventeen numbers.
+/// Why a call was refused, as one of the eighteen numbers: 1 to 17, and 19.
 #[derive(Clone, Copy, Debug, PartialEq, Eq, PartialOrd, Ord, Hash)]
 #[repr(u8)]
 pub enum RefusalKind {
@@ -31,8 +31,8 @@ pub enum RefusalKind {
     Boolean = 10,
     /// 11: there is no such unit type. The place is that byte.
     UnitType = 11,
-    /// 12: a mark's currency or display code is out of range. The place is its first byte.
-    MarkCode = 12,
+    /// 12: a mark's display code is out of range. The place is that byte.
+    DisplayCode = 12,
     /// 13: something follows the last item. The place is its first byte.
     BytesLeft = 13,
     /// 14: the lent output has not the room. The place is 0.
@@ -43,11 +43,13 @@ pub enum RefusalKind {
     NoField = 16,
     /// 17: the field is no scalar, or the scalar is none that can be written. The place is 0.
     WrongKind = 17,
+    /// 19: a mark's currency code is out of range. The place is its first byte.
+    CurrencyCode = 19,
 }
 
 impl RefusalKind {
-    /// All seventeen, in the order of their numbers.
-    pub const ALL: [RefusalKind; 17] = [
+    /// All eighteen, in the order of their numbers.
+    pub const ALL: [RefusalKind; 18] = [
         RefusalKind::EndsEarly,
         RefusalKind::WrongStart,
         RefusalKind::WrongEdition,
@@ -59,21 +61,22 @@ impl RefusalKind {
         RefusalKind::FieldCode,
         RefusalKind::Boolean,
         RefusalKind::UnitType,
-        RefusalKind::MarkCode,
+        RefusalKind::DisplayCode,
         RefusalKind::BytesLeft,
         RefusalKind::NoRoom,
         RefusalKind::WriterState,
         RefusalKind::NoField,
         RefusalKind::WrongKind,
+        RefusalKind::CurrencyCode,
     ];
 
-    /// The kind with this number, or `None` where the number is not 1 to 17.
+    /// The kind with this number, or `None` where the number is not 1 to 17 and not 19.
     #[must_use]
     pub fn of(number: u8) -> Option<RefusalKind> {
-        usize::from(number).checked_sub(1).and_then(|i| RefusalKind::ALL.get(i)).copied()
+        RefusalKind::ALL.into_iter().find(|kind| kind.number() == number)
     }
 
-    /// Its number, 1 to 17.
+    /// Its number, 1 to 17 or 19.
     #[must_use]
     pub const fn number(self) -> u8 {
         self as u8
@@ -94,12 +97,13 @@ impl RefusalKind {
             RefusalKind::FieldCode => "unknown field code",
             RefusalKind::Boolean => "Boolean neither 0 nor 1",
             RefusalKind::UnitType => "unknown unit type",
-            RefusalKind::MarkCode => "currency or display code out of range",
+            RefusalKind::DisplayCode => "display code out of range",
             RefusalKind::BytesLeft => "bytes left after the last item",
             RefusalKind::NoRoom => "output too short",
             RefusalKind::WriterState => "call out of turn in the writer",
             RefusalKind::NoField => "no such field",
             RefusalKind::WrongKind => "not a scalar that can be asked or written",
+            RefusalKind::CurrencyCode => "currency code out of range",
         }
     }
 }
@@ -138,7 +142,7 @@ impl Refusal {
         Refusal { kind, place }
     }
 
-    /// Its number, 1 to 17.
+    /// Its number, 1 to 17 or 19.
     #[must_use]
     pub const fn number(self) -> u8 {
         self.kind.number()
@@ -161,7 +165,7 @@ impl Refusal {
     pub(crate) fn answered(number: u32, place: u64) -> Refusal {
         let kind = u8::try_from(number).ok().and_then(RefusalKind::of);
         // The one other number is 255, for an answer that was lent too short; none here is.
-        let kind = kind.expect("a refusal has a number from 1 to 17");
+        let kind = kind.expect("a refusal has a listed number");
         // A place is at most the length of a slice that was lent.
         Refusal { kind, place: place as usize }
     }

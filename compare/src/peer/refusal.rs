@@ -5,14 +5,14 @@ use std::fmt;
 /// Why a call was refused and where.
 #[derive(Clone, Copy, Debug, PartialEq, Eq, Hash)]
 pub struct Refusal {
-    /// 1 to 17.
+    /// 1 to 17, or 19.
     pub number: u32,
     /// The place that the number's rule names.
     pub place: u64,
 }
 
 /// What each refusal number means; entry 0 stands for acceptance.
-pub const MEANINGS: [&str; 18] = [
+pub const MEANINGS: [&str; 20] = [
     "accepted",
     "the bytes end before the item being read",
     "frame 0 has a wrong byte or no digit",
@@ -25,12 +25,14 @@ pub const MEANINGS: [&str; 18] = [
     "a field code is above 32",
     "a Boolean byte is above 1",
     "a unit type is unknown",
-    "a currency or display code is outside its range",
+    "a display code is outside its range",
     "bytes follow the last item",
     "the lent output is too short",
     "the call does not fit the writer's state",
     "there is no such field",
     "the value is not of the kind asked or allowed",
+    "not a number of any call",
+    "a currency code is outside its range",
 ];
 
 impl Refusal {

@@ -101,6 +101,6 @@ fn currency(bytes: &[u8], place: usize) -> Result<usize, Refusal> {
     if (1..=MOST_CURRENCY).contains(&u16::from_be_bytes([high, low])) {
         Ok(place + 2)
     } else {
-        Err(Refusal::new(12, place))
+        Err(Refusal::new(19, place))
     }
 }

@@ -42,7 +42,7 @@ module _ (s : List ℕ) where
   unfolding currency
   currency-short at h = simp (lt-leb (at + 2) (length s) h)
 
-  pub currency-over : (at : ℕ) → at + 2 ≤ length s → currencyTaken (big s at 2) ≡ false → currency s at ≡ refused 12 at
+  pub currency-over : (at : ℕ) → at + 2 ≤ length s → currencyTaken (big s at 2) ≡ false → currency s at ≡ refused 19 at
   unfolding currency
   currency-over at h k = simp (le-leb (at + 2) (length s) h, k)
 
@@ -114,15 +114,15 @@ module _ (row s : List ℕ) (at u : ℕ) (room : at + 4 ≤ length s) (is : u �
   pub roomy-plain-over : u ≤ 28 → leb (byte s (at + 1)) (getD row u 0) ≡ false → markBy row s at ≡ refused 12 (at + 1)
   roomy-plain-over k d = mark-plain row s at u (omega arith) is k ∙ display-over row s u (at + 1) (omega arith) d
 
-  pub roomy-currency-over : 99 < u → u ≤ 106 → currencyTaken (big s (at + 1) 2) ≡ false → markBy row s at ≡ refused 12 (at + 1)
+  pub roomy-currency-over : 99 < u → u ≤ 106 → currencyTaken (big s (at + 1) 2) ≡ false → markBy row s at ≡ refused 19 (at + 1)
   roomy-currency-over k l d = go (eqb u 100) refl
     where
-      over : currency s (at + 1) ≡ refused 12 (at + 1)
+      over : currency s (at + 1) ≡ refused 19 (at + 1)
       over = currency-over s (at + 1) (omega arith) d
 
-      go : (t : Bool) → eqb u 100 ≡ t → markBy row s at ≡ refused 12 (at + 1)
+      go : (t : Bool) → eqb u 100 ≡ t → markBy row s at ≡ refused 19 (at + 1)
       go true e = mark-money row s at u (omega arith) is (eqb-true u 100 e) ∙ over
-      go false e = let other = eqb-false u 100 e in mark-per-stop row s at u (omega arith) is 12 (at + 1) (omega arith) l over
+      go false e = let other = eqb-false u 100 e in mark-per-stop row s at u (omega arith) is 19 (at + 1) (omega arith) l over
 
   taken : currencyTaken (big s (at + 1) 2) ≡ true → currency s (at + 1) ≡ fine (at + 3)
   taken d = currency-fine s (at + 1) (omega arith) d ∙ ap fine (omega arith)

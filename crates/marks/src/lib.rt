@@ -23,7 +23,7 @@ fn currency(s: &[u8], at: usize) -> Judged
     if currency_taken(number(s, at, 2)) {
         return Judged::Accepted(at + 2);
     }
-    sim0mq::refuse(12, at)
+    sim0mq::refuse(19, at)
 }
 
 // The display code of unit type t at `at`, by this row of last ones: the place after it.
@@ -59,7 +59,7 @@ fn roomy(s: &[u8], at: usize, last: &[u8; 29]) -> Judged
         return sim0mq::refuse(11, at);
     }
     if !currency_taken(number(s, at + 1, 2)) {
-        return sim0mq::refuse(12, at + 1);
+        return sim0mq::refuse(19, at + 1);
     }
     if u == 100 {
         return Judged::Accepted(at + 3);

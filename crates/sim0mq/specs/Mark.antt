@@ -42,11 +42,11 @@ currencyTaken c = leb 1 c && leb c 1000
 unfoldable pub displayTaken : ℕ → ℕ → Bool
 displayTaken t d = leb d (getD lastRow t 0)
 
--- Each item of a mark is there (1) before it is judged (11, 12); the answer is the place after it (01, the order in a field).
+-- Each item of a mark is there (1) before it is judged (11; 19, a currency; 12, a display code); the answer is the place after it (01, the order in a field).
 unfoldable pub currency : List ℕ → ℕ → Answer ℕ
 currency s at = do
   need s at 2
-  guard (currencyTaken (big s at 2)) 12 at
+  guard (currencyTaken (big s at 2)) 19 at
   fine (at + 2)
 
 unfoldable pub display : List ℕ → ℕ → ℕ → Answer ℕ

@@ -10,17 +10,18 @@ use crate::with;
 #[test]
 fn each_number_has_a_kind_with_words_of_its_own() {
     let mut words = HashSet::new();
-    for number in 1..=17 {
+    let mut all = RefusalKind::ALL.into_iter();
+    for number in (1..=17).chain([19]) {
         let kind = RefusalKind::of(number).unwrap();
-        assert_eq!((kind.number(), kind), (number, RefusalKind::ALL[usize::from(number) - 1]));
+        assert_eq!((kind.number(), Some(kind)), (number, all.next()));
         assert!(!kind.meaning().is_empty());
         let refusal = Refusal::new(kind, 5);
         assert_eq!((refusal.number(), refusal.kind(), refusal.place()), (number, kind, 5));
         assert_eq!(refusal.to_string(), format!("refused {number} at 5: {}", kind.meaning()));
         assert!(words.insert(kind.to_string()));
     }
-    assert_eq!(words.len(), 17);
-    assert_eq!([0, 18, 255].map(RefusalKind::of), [None; 3]);
+    assert_eq!(words.len(), 18);
+    assert_eq!([0, 18, 20, 255].map(RefusalKind::of), [None; 4]);
 }
 
 #[test]

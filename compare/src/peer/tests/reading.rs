@@ -164,9 +164,9 @@ fn marks_item_by_item() {
     refused(&with_payload(&[25]), 1, 69);
     refused(&with_payload(&[25, 16]), 1, 70);
     refused(&with_payload(&[26, 100, 3]), 1, 71);
-    refused(&with_payload(&[26, 100, 0, 0]), 12, 70);
-    refused(&with_payload(&[26, 100, 3, 0xE9]), 12, 70);
-    refused(&with_payload(&[26, 101, 3, 0xE9, 99]), 12, 70);
+    refused(&with_payload(&[26, 100, 0, 0]), 19, 70);
+    refused(&with_payload(&[26, 100, 3, 0xE9]), 19, 70);
+    refused(&with_payload(&[26, 101, 3, 0xE9, 99]), 19, 70);
     refused(&with_payload(&[26, 101, 3, 0xE8]), 1, 72);
     refused(&with_payload(&[26, 101, 3, 0xE8, 22]), 12, 72);
     for unknown in [29, 99, 107, 255] {
