@@ -33,7 +33,7 @@
  *     15   writer call that does not fit its state                     0
  *     16   no field k                                                  0
  *     17   value not of the kind asked or allowed                      0
- *     19   currency code outside its range                             its first byte
+ *     19   currency code that Appendix A of the manual does not list   its first byte
  */
 #ifndef SIM0MQ_H
 #define SIM0MQ_H

@@ -43,7 +43,7 @@ pub enum RefusalKind {
     NoField = 16,
     /// 17: the field is no scalar, or the scalar is none that can be written. The place is 0.
     WrongKind = 17,
-    /// 19: a mark's currency code is out of range. The place is its first byte.
+    /// 19: a mark's currency code is none of the manual's list. The place is its first byte.
     CurrencyCode = 19,
 }
 
@@ -103,7 +103,7 @@ impl RefusalKind {
             RefusalKind::WriterState => "call out of turn in the writer",
             RefusalKind::NoField => "no such field",
             RefusalKind::WrongKind => "not a scalar that can be asked or written",
-            RefusalKind::CurrencyCode => "currency code out of range",
+            RefusalKind::CurrencyCode => "unknown currency code",
         }
     }
 }

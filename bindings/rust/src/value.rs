@@ -12,7 +12,7 @@ use crate::raw::{Scalar, VALUE_NUMBERS};
 pub struct Mark {
     /// The unit type: 0 to 28, or, for money, 100 to 106.
     pub unit: u8,
-    /// The currency code, 1 to 1000 where the unit type is 100 or above.
+    /// The currency code, one of the manual's list (8 to 1000) where the unit type is 100 or above.
     pub currency: u16,
     /// The display code, within the range of the unit type.
     pub display: u8,

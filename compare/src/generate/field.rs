@@ -1,6 +1,7 @@
 //! Payload fields and scalars.
 
 use crate::peer::Value;
+use crate::plain::CURRENCIES;
 use crate::random::Random;
 
 /// What is wrong with a generated field.
@@ -186,7 +187,7 @@ fn mark_of(random: &mut Random, value: &mut Value) {
     let unit = unit_type(random);
     let last = last_of(unit);
     value.unit = unit;
-    value.currency = if unit >= 100 { random.between(1, 1000) as u16 } else { 0 };
+    value.currency = if unit >= 100 { random.pick(&CURRENCIES) } else { 0 };
     value.display = random.between(0, last.into()) as u8;
     if random.chance(25) {
         match random.index(5) {
@@ -265,8 +266,8 @@ fn sound_mark(random: &mut Random, out: &mut Vec<u8>) {
 fn mark(random: &mut Random, unit: u8, out: &mut Vec<u8>) {
     out.push(unit);
     if unit >= 100 {
-        let limits = [1, 1000, 255, 256, 978];
-        let inside = random.between(1, 1000) as u16;
+        let limits = [8, 1000, 191, 784, 978];
+        let inside = random.pick(&CURRENCIES);
         let currency = if random.chance(25) { random.pick(&limits) } else { inside };
         out.extend(currency.to_be_bytes());
     }
@@ -322,9 +323,15 @@ fn unknown_unit(random: &mut Random) -> u8 {
 
 /// A currency code outside its range.
 fn wrong_currency(random: &mut Random) -> u16 {
-    match random.index(3) {
+    match random.index(4) {
         0 => 0,
-        1 => random.pick(&[1001, 1002, 0x7FFF, 0x8000, 0xFFFF, 0x8001]),
+        1 => random.pick(&[1, 3, 7, 9, 998, 1001, 1023, 1024, 0x7FFF, 0x8000, 0xFFFF, 0x8001]),
+        2 => loop {
+            let code = random.between(1, 1000) as u16;
+            if !CURRENCIES.contains(&code) {
+                break code;
+            }
+        },
         _ => random.between(1001, 0xFFFF) as u16,
     }
 }

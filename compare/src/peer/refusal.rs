@@ -32,7 +32,7 @@ pub const MEANINGS: [&str; 20] = [
     "there is no such field",
     "the value is not of the kind asked or allowed",
     "not a number of any call",
-    "a currency code is outside its range",
+    "a currency code is not listed",
 ];
 
 impl Refusal {

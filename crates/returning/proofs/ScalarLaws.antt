@@ -4,19 +4,20 @@ use mathlib.Core.Path.{_≡_, refl, ap, sym, _∙_, subst}
 use mathlib.Core.Bool.{Bool, true, false, cond, not, false≢true}
 use mathlib.Core.List.{List, [], _∷_, _++_, flatMap, append-nil}
 use native.Mathlib.Omega.{arith}
-use lib.Dec.{T, eqb, leb, ltb}
+use lib.Dec.{T, eqb, ltb}
 use lib.ListN.{length, getD}
 use lib.IntN.{ℤ}
 use lib.Ieee as Ieee
 use lib.Ieee.{Format, binary32, binary64, fits, isNan, nanBits, ofBits, toBits}
 use lib.Ieee.Bits.{ofBits-toBits, toBits-lt, nanBits-is}
-use borrow.Author.Tests.{eqb-true, leb-true, not-true}
+use borrow.Author.Tests.{eqb-true, not-true}
 use Rattle.sim0mq.specs.Answer.{fine, byte, big}
 use Rattle.sim0mq.specs.Codes.{codeKnown, countsOf, markingOf, widthOf, boolean}
 use Rattle.sim0mq.specs.Mark.{Kind, plain, money, moneyPer, unknown, kindOf, currencyTaken, displayTaken}
 use Rattle.sim0mq.specs.Allowed.{numberAfter, number, none, more, IsMark, withDisplay, withCurrency, withBoth, FieldParts, joined, fieldBytes, valuesAsked, marksAsked, IsField}
 use Rattle.sim0mq.proofs.Answers.{and-true}
 use Rattle.sim0mq.proofs.Stands.{Stands, stands-self, stands-head, stands-tail, stands-left, stands-right, big-number}
+use Rattle.sim0mq.proofs.Rows.{currency-most}
 use Rattle.sim0mq.proofs.HeaderLaws.{values-there}
 use Rattle.sim0mq.proofs.FieldLaws.{fieldAt, field-complete}
 use Rattle.signed.specs.Signed.{twos}
@@ -74,8 +75,7 @@ scalar-bytes v = ap (λ (l : List ℕ). codeOf v ∷ (l ++ scalarBytes v)) (mark
 
 -- a currency code fits its two bytes
 currency-held : (c : ℕ) → currencyTaken c ≡ true → number (bigBytes 2 c) ≡ c
-unfolding currencyTaken
-currency-held c e = let h = leb-true c 1000 (and-true (leb 1 c) (leb c 1000) e .1) in number-back 2 c (omega arith)
+currency-held c e = let h = currency-most c e in number-back 2 c (omega arith)
 
 -- a mark that is taken is one that the manual allows
 mark-is : (m : Mark) (k : Kind) → kindOf (m .unit) ≡ k → markTaken m k ≡ true → IsMark (bytesOfMark m k)

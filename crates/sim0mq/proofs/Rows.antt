@@ -9,6 +9,7 @@ use native.Mathlib.Omega.{arith}
 use lib.Dec.{leb, eqb}
 use borrow.Author.Tests.{leb-true, eqb-true, eqb-false, not-true}
 use Rattle.sim0mq.specs.Codes.{countRow, widthRow, countsOf, widthOf, boolean}
+use Rattle.sim0mq.specs.Mark.{currencyRow, currencyTaken}
 use Rattle.sim0mq.specs.Header.{idCodes, numberCodes, statusCodes, countCodes, among}
 use Rattle.sim0mq.proofs.Answers.{and-true}
 
@@ -69,6 +70,15 @@ two-counts c = leb-true _ 2 (pass-any (λ (n : ℕ). leb n 2) countRow c refl re
 pub eight-wide : (c : ℕ) → widthOf c ≤ 8
 unfolding widthOf allPass
 eight-wide c = leb-true _ 8 (pass-any (λ (w : ℕ). leb w 8) widthRow c refl refl)
+
+-- the list of currency codes is whole
+pub currencies-many : length currencyRow ≡ 180
+currencies-many = refl
+
+-- no currency code is above 1000
+pub currency-most : (c : ℕ) → currencyTaken c ≡ true → c ≤ 1000
+unfolding currencyTaken allPass
+currency-most c e = leb-true c 1000 (pass-among (λ (k : ℕ). leb k 1000) currencyRow c refl e)
 
 -- the type codes of frames 6 and 7 have no count, and a value of at least one byte
 scalar : ℕ → Bool

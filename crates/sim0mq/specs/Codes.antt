@@ -1,9 +1,14 @@
 -- The field codes 0 to 32 (01, "Payload fields"; 000, 2.1): a row of 33 numbers for each column of 01's table, and a line for each of its lines.
 use Prim.Native.Nat.{ℕ}
-use mathlib.Core.Bool.{Bool, _||_}
+use mathlib.Core.Bool.{Bool, false, _||_}
 use mathlib.Core.List.{List, [], _∷_}
 use lib.ListN.{getD}
 use lib.Dec.{leb, eqb}
+
+-- Is k one of these numbers?
+unfoldable pub among : ℕ → List ℕ → Bool
+among k [] = false
+among k (x ∷ xs) = eqb k x || among k xs
 
 -- Is c a field code (01, refusal 9)?
 unfoldable pub codeKnown : ℕ → Bool

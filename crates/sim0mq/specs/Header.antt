@@ -1,10 +1,11 @@
 -- The eight header frames (01, "The eight header frames"; 000, 2.3).
 use Prim.Native.Nat.{ℕ, _+_}
-use mathlib.Core.Bool.{Bool, false, _&&_, _||_}
+use mathlib.Core.Bool.{Bool, _&&_}
 use mathlib.Core.List.{List, [], _∷_}
 use lib.Dec.{leb, eqb}
 use Rattle.sim0mq.specs.Answer.{Answer, fine, _>>=_, _>>_, guard, need, byte, big, notNegative}
 use Rattle.sim0mq.specs.Field.{Field, field, after}
+unfoldable pub use Rattle.sim0mq.specs.Codes.{among}
 
 -- Frame 0 before its digits: 9 0 0 0 5 S I M.
 abbrev pub magicBytes : List ℕ
@@ -22,11 +23,6 @@ statusCodes = 0 ∷ []
 
 abbrev pub countCodes : List ℕ
 countCodes = 0 ∷ 1 ∷ 2 ∷ []
-
--- Is k one of these numbers?
-unfoldable pub among : ℕ → List ℕ → Bool
-among k [] = false
-among k (x ∷ xs) = eqb k x || among k xs
 
 -- Is x a status: new, change or delete (000, 2.3.5)?
 unfoldable pub statusTaken : ℕ → Bool

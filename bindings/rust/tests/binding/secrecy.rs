@@ -14,7 +14,7 @@ const PAYLOAD: &[u8] =
 /// message number, status, text, number, mark and price.
 const OTHER: &[u8] = b"\x09\0\0\0\x05SIM01\x09\0\0\0\x09idvv-25-3\x09\0\0\0\x04mc-2\
     \x09\0\0\0\x05mm2-5\x09\0\0\0\x06dsol-4\x03\x91\x92\x93\x94\x95\x96\x97\x98\0\x03\x01\0\x03\
-    \x09\0\0\0\x05Bobby\x02\x01\x02\x03\x04\x1A\x6A\0\x01\x02\x01\x02\x03\x04\x05\x06\x07\x08";
+    \x09\0\0\0\x05Bobby\x02\x01\x02\x03\x04\x1A\x6A\0\x08\x02\x01\x02\x03\x04\x05\x06\x07\x08";
 
 /// Fails where the `Debug` of this tells a text, an id or a number of the message with `PAYLOAD`.
 fn keeps_silent(shown: &dyn Debug) {

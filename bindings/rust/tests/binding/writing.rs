@@ -149,7 +149,7 @@ fn carried(value_in: Value) -> Result<Value, Refusal> {
 fn every_kind_of_value_comes_back() {
     let plain = Mark { unit: 16, currency: 0, display: 21 };
     let sum = Mark { unit: 100, currency: 1000, display: 0 };
-    let price = Mark { unit: 106, currency: 1, display: 27 };
+    let price = Mark { unit: 106, currency: 8, display: 27 };
     let integers = [i8::MIN, -1, 0, 1, i8::MAX].map(Value::Byte).into_iter();
     let values = integers
         .chain([i16::MIN, -1, 0, i16::MAX].map(Value::Short))
@@ -205,7 +205,8 @@ fn forged_marks_are_not_added() {
         (0, 0, 1),
         (100, 0, 0),
         (100, 1001, 0),
-        (100, 1, 1),
+        (100, 3, 0),
+        (100, 8, 1),
         (101, 0, 0),
         (101, 978, 22),
         (106, 978, 28),

@@ -70,7 +70,7 @@ fn only_scalars_have_a_value() {
     assert_eq!(value(&text, 0), Err(Refusal::new(17, 0)));
     assert_eq!(value(&text, 1), Err(Refusal::new(16, 0)));
     assert_eq!(view(&text, 0), Ok((73, 2)));
-    let empty = with_payload(&[27, 0, 0, 0, 0, 100, 0, 1]);
+    let empty = with_payload(&[27, 0, 0, 0, 0, 100, 0, 8]);
     assert_eq!(value(&empty, 0), Err(Refusal::new(17, 0)));
     assert_eq!(view(&empty, 0), Ok((76, 0)));
 }

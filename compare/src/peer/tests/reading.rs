@@ -186,7 +186,7 @@ fn every_unit_type() {
         refused(&field(last + 1), 12, 70);
     }
     for (unit, last) in (101..).zip([21, 38, 21, 24, 10, 27]) {
-        let field = |display| with_payload(&[25, unit, 0, 1, display, 0, 0, 0, 0]);
+        let field = |display| with_payload(&[25, unit, 0, 8, display, 0, 0, 0, 0]);
         assert_eq!(table_of(&field(last)), [[25, 68, 73, 4, 1]]);
         refused(&field(last + 1), 12, 72);
     }
@@ -209,7 +209,7 @@ fn marks_per_column() {
     assert_eq!(table_of(&message), [[31, 68, 81, 32, 2]]);
     assert_eq!(judged(&message).expect("accepted").steps, 11);
     // No rows: the marks of all columns are still there.
-    let message = with_payload(&[32, 0, 0, 0, 0, 0, 0, 0, 3, 0, 0, 100, 0, 1, 101, 0, 1, 2]);
+    let message = with_payload(&[32, 0, 0, 0, 0, 0, 0, 0, 3, 0, 0, 100, 0, 8, 101, 0, 8, 2]);
     assert_eq!(table_of(&message), [[32, 68, 86, 0, 3]]);
     refused(&message[..85], 1, 85);
     // No columns: no marks, whatever the rows.
@@ -285,8 +285,8 @@ fn blanking() {
 #[test]
 fn blanking_keeps_counts_and_marks() {
     let payload =
-        b"\x09\0\0\0\x02Hi\x20\0\0\0\x01\0\0\0\x02\x10\x0B\x65\0\x05\x03ABCDEFGHIJKLMNOP\x06\x01";
-    let blanked = b"\x09\0\0\0\x02\0\0\x20\0\0\0\x01\0\0\0\x02\x10\x0B\x65\0\x05\x03\0\0\0\0\0\0\0\0\0\0\0\0\0\0\0\0\x06\0";
+        b"\x09\0\0\0\x02Hi\x20\0\0\0\x01\0\0\0\x02\x10\x0B\x65\0\x08\x03ABCDEFGHIJKLMNOP\x06\x01";
+    let blanked = b"\x09\0\0\0\x02\0\0\x20\0\0\0\x01\0\0\0\x02\x10\x0B\x65\0\x08\x03\0\0\0\0\0\0\0\0\0\0\0\0\0\0\0\0\x06\0";
     let message = with_fields(3, payload);
     let mut out = vec![0xEE; message.len() + 1];
     assert_eq!(blank(&message, &mut out), Ok(message.len() as u64));

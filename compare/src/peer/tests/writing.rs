@@ -190,10 +190,10 @@ fn scalars_that_do_not_fit() {
 fn marks_that_reading_never_gives() {
     assert!(!not_allowed(9, 0, 16, 0, 21) && not_allowed(9, 0, 16, 0, 22));
     assert!(not_allowed(9, 0, 16, 1, 21) && not_allowed(9, 0, 29, 0, 0));
-    assert!(!not_allowed(10, 0, 100, 1, 0) && not_allowed(10, 0, 100, 1, 1));
-    assert!(not_allowed(10, 0, 100, 0, 0) && not_allowed(10, 0, 100, 1001, 0));
+    assert!(!not_allowed(10, 0, 100, 8, 0) && not_allowed(10, 0, 100, 8, 1));
+    assert!(not_allowed(10, 0, 100, 3, 0) && not_allowed(10, 0, 100, 1001, 0));
     assert!(!not_allowed(10, 0, 106, 1000, 27) && not_allowed(10, 0, 106, 1000, 28));
-    assert!(not_allowed(10, 0, 101, 0, 0) && not_allowed(10, 0, 107, 1, 0));
+    assert!(not_allowed(10, 0, 101, 0, 0) && not_allowed(10, 0, 107, 8, 0));
     assert!(not_allowed(9, 0, 99, 1, 0) && not_allowed(9, 0, 255, 0, 0));
 }
 

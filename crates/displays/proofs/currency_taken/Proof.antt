@@ -1,16 +1,23 @@
--- The code's two tests are the definition's two.
-use borrow.Author.Tests.{lt-leb, le-leb}
+-- The code's bit in its word is what the list says of it.
+use Prim.Native.Nat.{_%_}
+use mathlib.Core.Path.{ap, _∙_}
+use native.Mathlib.Omega.{arith}
+use native.Mathlib.Nat.{div-add-mod'}
+use borrow.Author.Needs.{needs}
 use Rattle.sim0mq.specs.Mark.{currencyTaken}
+use Rattle.tables.specs.Bits.{bit}
 use Rattle.displays.proofs.currency_taken.Statement.{statement}
 use Rattle.displays.proofs.currency_taken.Tie as tie
 
-returns : tie.Need-returns
-unfolding currencyTaken
-returns c = simp (lt-leb 1 _ (c .if1 .taken))
+currencies-requires : tie.Need-currencies-requires
+currencies-requires c κs = search needs
 
-returns-2 : tie.Need-returns-2
-unfolding currencyTaken
-returns-2 c = simp (le-leb 1 _ (c .if1 .left))
+shr-result : tie.Need-shr-result
+shr-result c = search needs
+
+returns : tie.Need-returns
+unfolding bit
+returns c = c .currencies .ensures (c .before .args .c % 64) (omega arith) ∙ ap currencyTaken (div-add-mod' (c .before .args .c) 64)
 
 pub currency-taken-spec : {M : Type 1} → statement M
-currency-taken-spec = tie.close (tie.spec returns returns-2)
+currency-taken-spec = tie.close (tie.spec currencies-requires shr-result returns)
