@@ -143,7 +143,7 @@ uint32_t sim0mq_blank(const uint8_t *message, size_t message_len, uint8_t *out, 
  * writes. `out` past the message stays. In `closed` 0 is open and any other number closed.
  *
  * Opening writes the header. `ids` is four encoded frames in one piece: run, sender, receiver, message type. Where `stated` is 0 the type code of the
- * declared count is 1, and else `kind`.
+ * declared count is 2, a 32-bit int, and else `kind`; the short form of the manual's example states 1.
  * Refusals, in this order: 1, 4, 5 and 13 in the ids (places within them), 6 status, 4 count type, 7 count, 8, 14. A 4 at place 0 is the first id's or
  * the count type's.
  */

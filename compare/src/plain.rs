@@ -311,7 +311,7 @@ fn open(opening: &Opening, room: usize) -> Judged<Vec<u8>> {
         scan.id()?;
     }
     scan.end()?;
-    let kind = opening.kind.unwrap_or(1);
+    let kind = opening.kind.unwrap_or(2);
     let most = [127, 256, 256];
     if opening.status == 0 || opening.status > 3 {
         return no(6, 0);

@@ -20,7 +20,7 @@ pub struct Header<'i> {
     pub status: u8,
     /// The declared number of fields, 0 to 256.
     pub fields: usize,
-    /// The type code of that number: 0, 1 or 2; 1 where none is stated.
+    /// The type code of that number: 0, 1 or 2; 2, a 32-bit int, where none is stated.
     pub count_type: Option<u8>,
 }
 
@@ -49,7 +49,7 @@ impl fmt::Debug for Header<'_> {
 ///     number: 124,
 ///     status: 2,
 ///     fields: 1,
-///     count_type: None,
+///     count_type: Some(1),
 /// };
 /// let mut writer = Writer::open(&mut out, &header)?;
 /// assert_eq!(writer.add_value(Value::Double(0.2))?, 77);
@@ -156,7 +156,7 @@ impl fmt::Debug for Writer<'_> {
 ///
 /// let mut writer = unfinished.into_writer();
 /// writer.add_value(Value::Boolean(true))?;
-/// assert_eq!(writer.close()?.len(), 38);
+/// assert_eq!(writer.close()?.len(), 40);
 /// # Ok::<(), sim0mq::Refusal>(())
 /// ```
 #[derive(Debug)]

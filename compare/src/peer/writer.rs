@@ -23,7 +23,7 @@ impl State {
 }
 
 /// The type code of the count where none is stated.
-const USUAL_KIND: u8 = 1;
+const USUAL_KIND: u8 = 2;
 
 /// Opens a message: writes its header and answers the length so far.
 #[must_use = "the state is needed to go on"]

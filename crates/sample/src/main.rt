@@ -10,7 +10,7 @@ use writing::Writer;
 fn main() {
     let mut out = [0u8; 77];
     let ids = b"\x09\0\0\0\x09IDVV.14.2\x09\0\0\0\x04MC.1\x09\0\0\0\x05MM1.4\x09\0\0\0\x06DSOL.3";
-    let opened = Writer::open(ids, 124, 2, 1, CountType::Unstated, &mut out);
+    let opened = Writer::open(ids, 124, 2, 1, CountType::Stated(1), &mut out);
     let open = opened.writer;
     let added = open.add_scalar(Scalar::Double(0.2), &mut out);
     let full = added.writer;

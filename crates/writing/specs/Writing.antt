@@ -28,9 +28,9 @@ pub record Opening : Type 0 where
 abbrev pub asksFor : List ℕ → ℤ → ℕ → ℕ → CountType → Opening
 asksFor ids number status fields kind = record { ids = ids; number = number; status = status; fields = fields; kind = kind }
 
--- The type code of the count: the one that is stated, or 1, as in 000's example (2.3.6).
+-- The type code of the count: the one that is stated, or 2, the manual's standard coding (000, 2.3; 02, Ticket 8).
 unfoldable pub countCode : CountType → ℕ
-countCode Unstated = 1
+countCode Unstated = 2
 countCode (Stated c) = c
 
 -- The header that is asked for.

@@ -13,7 +13,7 @@ use payload::payload;
 use sim0mq::Judged;
 use sim0mq::Refusal;
 
-// The type code of the declared count: not stated, which is 1, or stated.
+// The type code of the declared count: not stated, which is 2, or stated.
 pub enum CountType {
     Unstated,
     Stated(u8),
@@ -38,7 +38,7 @@ fn code_of(kind: CountType) -> u8
     ensures { λ r. ⌜ r ≡ countCode kind ⌝ }
 {
     match kind {
-        CountType::Unstated => 1,
+        CountType::Unstated => 2,
         CountType::Stated(code) => code,
     }
 }

@@ -98,7 +98,7 @@ fn messages_of_one_build_show_the_same() {
 fn writers_show_how_far_they_are() {
     let mut out = [0; 300];
     let ids = &S[10..54];
-    let header = Header { ids, number: 124, status: 2, fields: 2, count_type: None };
+    let header = Header { ids, number: 124, status: 2, fields: 2, count_type: Some(1) };
     let mut writer = Writer::open(&mut out, &header).unwrap();
     writer.add(b"\x09\0\0\0\x05Alice").unwrap();
     keeps_silent(&writer);

@@ -6,7 +6,7 @@ use crate::{carrying, told, S};
 
 /// The header of S, declaring this many fields.
 fn header(fields: usize) -> Header<'static> {
-    Header { ids: &S[10..54], number: 124, status: 2, fields, count_type: None }
+    Header { ids: &S[10..54], number: 124, status: 2, fields, count_type: Some(1) }
 }
 
 /// The message written anew from what reading tells of it, its scalars as values where asked.
@@ -60,6 +60,15 @@ fn each_call_answers_the_bytes_written_and_the_rest_stays() {
     assert_eq!((writer.written(), writer.declared(), writer.added()), (73, 2, 2));
     assert_eq!(writer.close().unwrap(), carrying(2, &[6, 1, 1, 0xFF, 0xFE]));
     assert_eq!(out[73..], [0xAA; 27]);
+}
+
+#[test]
+fn a_count_whose_type_is_not_stated_is_a_32_bit_int() {
+    let mut out = [0; 100];
+    let unstated = Header { count_type: None, ..header(0) };
+    let message = Writer::open(&mut out, &unstated).unwrap().close().unwrap();
+    assert_eq!(message[65..], [2, 0, 0, 0, 0]);
+    assert_eq!(read(message).unwrap().count_type(), 2);
 }
 
 #[test]

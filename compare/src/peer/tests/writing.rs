@@ -20,7 +20,7 @@ fn unchanged(number: u32, place: usize, state: State) -> Answer {
 #[test]
 fn the_example_is_written() {
     let mut out = [0xEE; 80];
-    assert_eq!(open(IDS, 124, 2, 1, None, &mut out), (Ok(68), OPEN));
+    assert_eq!(open(IDS, 124, 2, 1, Some(1), &mut out), (Ok(68), OPEN));
     assert_eq!(out[..68], S[..68]);
     let state = State { written: 77, added: 1, ..OPEN };
     assert_eq!(add(OPEN, &S[68..], &mut out), (Ok(77), state));
@@ -53,8 +53,8 @@ fn openings_are_judged_in_order() {
     assert_eq!(open(IDS, 0, 1, 127, Some(0), &mut out[..67]).0, Ok(67));
     assert_eq!(open(IDS, 0, 1, 256, Some(2), &mut out[..70]).0, Ok(70));
     assert_eq!(out[65..70], [2, 0, 0, 1, 0]);
-    assert_eq!(open(IDS, i64::MIN, 3, 0, None, &mut out).0, Ok(68));
-    assert_eq!(out[54..68], [3, 0x80, 0, 0, 0, 0, 0, 0, 0, 0, 3, 1, 0, 0]);
+    assert_eq!(open(IDS, i64::MIN, 3, 0, None, &mut out).0, Ok(70));
+    assert_eq!(out[54..70], [3, 0x80, 0, 0, 0, 0, 0, 0, 0, 0, 3, 2, 0, 0, 0, 0]);
 }
 
 #[test]
@@ -67,12 +67,12 @@ fn long_openings() {
     };
     let mut out = vec![0; 40_000];
     let longest = ids(32_768 - 24);
-    assert_eq!(open(&longest, 0, 1, 0, None, &mut out).0, Ok(32_768));
-    assert_eq!(open(&longest, 0, 1, 0, None, &mut out[..32_767]), unopened(14, 0));
+    assert_eq!(open(&longest, 0, 1, 0, Some(1), &mut out).0, Ok(32_768));
+    assert_eq!(open(&longest, 0, 1, 0, Some(1), &mut out[..32_767]), unopened(14, 0));
     assert_eq!(open(&longest, 0, 1, 0, Some(0), &mut out).0, Ok(32_767));
     assert_eq!(open(&longest, 0, 1, 0, Some(2), &mut out), unopened(8, 0));
-    assert_eq!(open(&ids(32_768 - 23), 0, 1, 0, None, &mut []), unopened(8, 0));
-    let (length, state) = open(&longest, 0, 1, 1, None, &mut out);
+    assert_eq!(open(&ids(32_768 - 23), 0, 1, 0, Some(1), &mut []), unopened(8, 0));
+    let (length, state) = open(&longest, 0, 1, 1, Some(1), &mut out);
     assert_eq!(length, Ok(32_768));
     assert_eq!(add(state, &[0, 1], &mut out), unchanged(8, 0, state));
 }
@@ -200,7 +200,7 @@ fn marks_that_reading_never_gives() {
 #[test]
 fn a_marked_scalar_is_written() {
     let mut out = [0xEE; 81];
-    let (_, state) = open(IDS, 124, 2, 1, None, &mut out);
+    let (_, state) = open(IDS, 124, 2, 1, Some(1), &mut out);
     let (added, state) = add_scalar(state, 10, 2500f64.to_bits(), 101, 978, 21, &mut out);
     assert_eq!(added, Ok(81));
     assert_eq!(out[68..], [26, 101, 3, 0xD2, 21, 0x40, 0xA3, 0x88, 0, 0, 0, 0, 0]);
