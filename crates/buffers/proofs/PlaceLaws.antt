@@ -1,10 +1,10 @@
 -- A text that has room is placed, whole or as its one byte, and zeros are; where there is no room nothing changes.
 use Prim.Native.Nat.{ℕ, suc, _+_, _-_, _<_, _≤_}
 use mathlib.Core.Path.{_≡_, refl, ap, ap₂, sym, _∙_}
-use mathlib.Core.List.{List, [], _∷_, _++_, append-nil}
+use mathlib.Core.List.{List, [], _∷_, _++_, append-nil, append-assoc}
 use native.Mathlib.Omega.{arith}
 use lib.ListN.{length, getD, take, drop, set, replicate, length-drop, drop-of-length-le}
-use lib.Seq.{take-all, take-length, take-at, drop-drop, set-split}
+use lib.Seq.{take-all, take-length, take-at, drop-drop, set-split, sets, sets-eq}
 use borrow.Author.Tests.{le-leb, lt-leb}
 use borrow.Rule.Slice.PartMut.{midOf, putMid}
 use Rattle.sim0mq.specs.Table.{placed}
@@ -53,6 +53,14 @@ module _ (out : List ℕ) (at : ℕ) where
   zeroed-byte n one h =
       let e : suc at ≡ at + 1 = omega arith in
       set-split out at 0 h ∙ ap (λ (k : ℕ). take at out ++ (0 ∷ drop k out)) e ∙ ap (λ (k : ℕ). take at out ++ (replicate k 0 ++ drop (at + k) out)) (sym one)
+
+  -- and eight of them
+  pub zeroed-eight : (n : ℕ) → n ≡ 8 → at + 8 ≤ length out → sets out at (replicate 8 0) ≡ zeroed out at n
+  unfolding zeroed
+  zeroed-eight n eight h =
+      sets-eq (replicate 8 0) out at h
+      ∙ append-assoc (take at out) (replicate 8 0) (drop (at + 8) out)
+      ∙ ap (λ (k : ℕ). take at out ++ (replicate k 0 ++ drop (at + k) out)) (sym eight)
 
   -- n bytes that are there are cleared, and where they are not nothing changes
   pub clear-fits : (n : ℕ) → at + n ≤ length out → clearedIn out at n ≡ zeroed out at n

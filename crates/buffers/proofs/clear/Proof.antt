@@ -1,4 +1,4 @@
--- Where there is room, the one byte is stored, or each turn stores one more: the bytes cleared so far are zero, and the others are as they were.
+-- Where there is room, the one byte is stored, or the eight, or each turn stores one more: the bytes cleared so far are zero, and the others are as they were.
 use borrow.Author.Needs.{needs}
 use native.Mathlib.Omega.{arith}
 use Prim.Native.Nat.{ℕ, _+_, _-_, _<_, _≤_}
@@ -8,7 +8,7 @@ use native.Mathlib.Numerals.{add-one}
 use lib.ListN.{length, take, drop, length-set, replicate, length-replicate, getD-replicate}
 use lib.Seq.{paste, paste-zero, paste-suc, take-all}
 use Rattle.sim0mq.specs.Blank.{zeroed}
-use Rattle.buffers.proofs.PlaceLaws.{zeroed-byte, clear-fits, clear-over}
+use Rattle.buffers.proofs.PlaceLaws.{zeroed-byte, zeroed-eight, clear-fits, clear-over}
 use Rattle.buffers.proofs.clear.Statement.{statement}
 use Rattle.buffers.proofs.clear.Tie as tie
 
@@ -41,13 +41,25 @@ same-length c = search needs
 
 returns-3 : tie.Need-returns-3 Inv-loop μ-loop
 returns-3 c =
-    let a = c .before .before .before .args in
+    let a = c .before .before .before .before .args in
     let room : a .at + a .n ≤ length (a .out .now) = omega arith in
     zeroed-byte _ _ _ (c .if3 .taken) (omega arith) ∙ sym (clear-fits _ _ _ room)
 
+clear-eight-requires : tie.Need-clear-eight-requires Inv-loop μ-loop
+clear-eight-requires c κs = search needs
+
+same-length-2 : tie.Need-same-length-2 Inv-loop μ-loop
+same-length-2 c = search needs
+
+returns-4 : tie.Need-returns-4 Inv-loop μ-loop
+returns-4 c =
+    let a = c .before .before .before .before .before .before .before .before .before .args in
+    let room : a .at + a .n ≤ length (a .out .now) = omega arith in
+    c .before .before .clear-eight .ensures ∙ zeroed-eight _ _ _ (c .before .before .before .before .if4 .taken) (omega arith) ∙ sym (clear-fits _ _ _ room)
+
 loop-holds : tie.Need-loop-holds Inv-loop μ-loop
 loop-holds c =
-    let a = c .before .before .before .args in
+    let a = c .before .before .before .before .before .args in
     (omega arith, refl, paste-zero (a .out .now) (a .at) (zeros (a .n)))
 
 add-out : tie.Need-add-out Inv-loop μ-loop
@@ -64,7 +76,7 @@ loop-less c = search needs
 
 loop-again : tie.Need-loop-again Inv-loop μ-loop
 loop-again c =
-    let a = c .before .before .before .before .before .args in
+    let a = c .before .before .before .before .before .before .before .args in
     let n : ℕ = a .n in
     let i : ℕ = c .before .loop .i in
     let inv = c .before .loop .inv in
@@ -72,13 +84,13 @@ loop-again c =
     let step = paste-suc (a .out .now) (a .at) (zeros n) i 0 (omega arith) (omega (arith, long n)) in
     (omega arith, simp length-set (inv .1), rw (inv .2, add-one i) (rw (getD-replicate {A = ℕ} n i 0 0 more) at step))
 
-same-length-2 : tie.Need-same-length-2 Inv-loop μ-loop
-same-length-2 c = search needs
+same-length-3 : tie.Need-same-length-3 Inv-loop μ-loop
+same-length-3 c = search needs
 
-returns-4 : tie.Need-returns-4 Inv-loop μ-loop
+returns-5 : tie.Need-returns-5 Inv-loop μ-loop
 unfolding zeroed
-returns-4 c =
-    let a = c .before .before .before .before .before .args in
+returns-5 c =
+    let a = c .before .before .before .before .before .before .before .args in
     let d = a .out .now in
     let at : ℕ = a .at in
     let n : ℕ = a .n in
@@ -100,11 +112,14 @@ clear-spec =
     slice-write-out
     same-length
     returns-3
+    clear-eight-requires
+    same-length-2
+    returns-4
     loop-holds
     add-out
     slice-write-out-2
     add-i
     loop-less
     loop-again
-    same-length-2
-    returns-4)
+    same-length-3
+    returns-5)
