@@ -15,14 +15,14 @@ pub const MOST_ROOM: usize = 40_000;
 
 /// The length of a lent table for a message that declares `fields` fields.
 pub fn table_length(random: &mut Random, fields: u64) -> usize {
-    let exact = 5 * fields.min(300) as usize;
+    let exact = 6 * fields.min(300) as usize;
     match random.share(&[50, 10, 15, 5, 10, 10]) {
         0 => exact,
         1 => exact.saturating_sub(1),
         2 => exact + random.index(12),
         3 => 0,
         4 => random.index(exact + 2),
-        _ => exact.max(1280) + random.index(10),
+        _ => exact.max(1536) + random.index(10),
     }
 }
 

@@ -24,7 +24,7 @@ pub const MOST_BYTES: usize = 32_768;
 /// The most payload fields a message may have.
 pub const MOST_FIELDS: u64 = 256;
 /// The numbers in the table for each field.
-pub const PER_FIELD: usize = 5;
+pub const PER_FIELD: usize = 6;
 /// Up to here a message counts as one of few fields, which are kept in less space.
 const FEW_FIELDS: usize = 16;
 
@@ -146,6 +146,7 @@ fn fill<const N: usize>(
             u32::from(first),
             u32::from(end - first),
             payload::marks(message, place),
+            payload::values(message, place),
         ]);
         place = usize::from(end);
     }

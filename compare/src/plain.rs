@@ -16,16 +16,16 @@ pub struct Plain;
 
 /// The currency codes of the manual's Appendix A, section 100, in its order.
 pub const CURRENCIES: [u16; 180] = [
-    784, 971, 8, 51, 532, 973, 32, 36, 533, 944, 977, 52, 50, 975, 48, 108, 60, 96, 68, 984,
-    986, 44, 64, 72, 933, 974, 84, 124, 976, 947, 756, 948, 990, 152, 156, 170, 970, 188, 931,
-    192, 132, 203, 262, 208, 214, 12, 818, 232, 230, 978, 242, 238, 826, 981, 936, 292, 270,
-    324, 320, 328, 344, 340, 191, 332, 348, 360, 376, 356, 368, 364, 352, 388, 400, 392, 404,
-    417, 116, 174, 408, 410, 414, 136, 398, 418, 422, 144, 430, 426, 434, 504, 498, 969, 807,
-    104, 496, 446, 478, 480, 462, 454, 484, 979, 458, 943, 516, 566, 558, 578, 524, 554, 512,
-    590, 604, 598, 608, 586, 985, 600, 634, 946, 941, 643, 646, 682, 90, 690, 938, 752, 702,
-    654, 694, 706, 968, 728, 678, 222, 760, 748, 764, 972, 934, 788, 776, 949, 780, 901, 834,
-    980, 800, 840, 997, 940, 858, 860, 937, 704, 548, 882, 950, 961, 959, 955, 956, 957, 958,
-    951, 960, 952, 964, 953, 962, 994, 963, 965, 999, 886, 710, 967, 932, 1000,
+    784, 971, 8, 51, 532, 973, 32, 36, 533, 944, 977, 52, 50, 975, 48, 108, 60, 96, 68, 984, 986,
+    44, 64, 72, 933, 974, 84, 124, 976, 947, 756, 948, 990, 152, 156, 170, 970, 188, 931, 192, 132,
+    203, 262, 208, 214, 12, 818, 232, 230, 978, 242, 238, 826, 981, 936, 292, 270, 324, 320, 328,
+    344, 340, 191, 332, 348, 360, 376, 356, 368, 364, 352, 388, 400, 392, 404, 417, 116, 174, 408,
+    410, 414, 136, 398, 418, 422, 144, 430, 426, 434, 504, 498, 969, 807, 104, 496, 446, 478, 480,
+    462, 454, 484, 979, 458, 943, 516, 566, 558, 578, 524, 554, 512, 590, 604, 598, 608, 586, 985,
+    600, 634, 946, 941, 643, 646, 682, 90, 690, 938, 752, 702, 654, 694, 706, 968, 728, 678, 222,
+    760, 748, 764, 972, 934, 788, 776, 949, 780, 901, 834, 980, 800, 840, 997, 940, 858, 860, 937,
+    704, 548, 882, 950, 961, 959, 955, 956, 957, 958, 951, 960, 952, 964, 953, 962, 994, 963, 965,
+    999, 886, 710, 967, 932, 1000,
 ];
 
 /// One refusal.
@@ -159,8 +159,8 @@ impl<'a> Scan<'a> {
         Ok(())
     }
 
-    /// The five table numbers of the next field.
-    fn field(&mut self) -> Judged<[u32; 5]> {
+    /// The six table numbers of the next field.
+    fn field(&mut self) -> Judged<[u32; 6]> {
         let place = self.at;
         let code = self.take(1)?[0];
         if code > 32 {
@@ -192,7 +192,8 @@ impl<'a> Scan<'a> {
                 return no(10, first + wrong);
             }
         }
-        Ok([code.into(), place as u32, first as u32, bytes.len() as u32, marks as u32])
+        let size = bytes.len() as u32;
+        Ok([code.into(), place as u32, first as u32, size, marks as u32, values as u32])
     }
 
     fn end(&self) -> Judged<()> {
@@ -219,13 +220,13 @@ fn width(code: u8) -> i128 {
 }
 
 /// Reads a message into a list of fields.
-fn read(message: &[u8], room: Option<usize>) -> Judged<(Reading, Vec<[u32; 5]>)> {
+fn read(message: &[u8], room: Option<usize>) -> Judged<(Reading, Vec<[u32; 6]>)> {
     if message.len() > 32_768 {
         return no(8, 0);
     }
     let mut scan = Scan { bytes: message, at: 0 };
     let (frames, fields) = scan.header()?;
-    if room.is_some_and(|room| (room as u64) < 5 * fields) {
+    if room.is_some_and(|room| (room as u64) < 6 * fields) {
         return no(14, 0);
     }
     let table = (0..fields).map(|_| scan.field()).collect::<Judged<Vec<_>>>()?;
@@ -237,7 +238,7 @@ fn read(message: &[u8], room: Option<usize>) -> Judged<(Reading, Vec<[u32; 5]>)>
 }
 
 /// The table numbers of field `k`.
-fn ask(message: &[u8], k: u64) -> Judged<[u32; 5]> {
+fn ask(message: &[u8], k: u64) -> Judged<[u32; 6]> {
     let (_, table) = read(message, None)?;
     match table.iter().enumerate().find(|&(number, _)| number as u64 == k) {
         Some((_, field)) => Ok(*field),
@@ -246,7 +247,7 @@ fn ask(message: &[u8], k: u64) -> Judged<[u32; 5]> {
 }
 
 /// The scalar in a field of these table numbers.
-fn scalar(bytes: &[u8], [code, place, first, size, _]: [u32; 5]) -> Judged<Value> {
+fn scalar(bytes: &[u8], [code, place, first, size, _, _]: [u32; 6]) -> Judged<Value> {
     let kind = match code {
         0..=8 => code as u8,
         25 => 9,
@@ -380,7 +381,7 @@ impl Subject for Plain {
     fn read(&self, message: &[u8], table: &mut [u32], answer: &mut [u64]) -> u32 {
         give(answer, || {
             reading_numbers(read(message, Some(table.len())).map(|(reading, fields)| {
-                table[..5 * fields.len()].copy_from_slice(&fields.concat());
+                table[..6 * fields.len()].copy_from_slice(&fields.concat());
                 reading
             }))
         })
@@ -402,7 +403,7 @@ impl Subject for Plain {
     fn view(&self, message: &[u8], k: u64, answer: &mut [u64]) -> u32 {
         give::<VIEW>(answer, || match ask(message, k) {
             Err(refusal) => refused(refusal),
-            Ok([_, _, first, size, _]) => [0, 0, first.into(), size.into()],
+            Ok([_, _, first, size, ..]) => [0, 0, first.into(), size.into()],
         })
     }
 
@@ -412,7 +413,7 @@ impl Subject for Plain {
             Ok(_) if out.len() < message.len() => refused(Refusal { number: 14, place: 0 }),
             Ok((_, table)) => {
                 out[..message.len()].copy_from_slice(message);
-                for [_, _, first, size, _] in table {
+                for [_, _, first, size, ..] in table {
                     out[first as usize..][..size as usize].fill(0);
                 }
                 [0, 0, message.len() as u64]

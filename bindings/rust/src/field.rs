@@ -9,7 +9,7 @@ use crate::refusal::Refusal;
 use crate::value::Value;
 
 /// The table's numbers for each field.
-pub(crate) const ROW_NUMBERS: usize = 5;
+pub(crate) const ROW_NUMBERS: usize = 6;
 
 /// A field of an accepted message: its row of the table, and its bytes by that row.
 ///
@@ -25,7 +25,7 @@ impl<'m> Field<'m> {
     /// Field k of an accepted message, told by its row.
     #[inline]
     pub(crate) fn of(message: &'m [u8], k: usize, row: &[u32]) -> Field<'m> {
-        Field { message, k, row: [row[0], row[1], row[2], row[3], row[4]] }
+        Field { message, k, row: [row[0], row[1], row[2], row[3], row[4], row[5]] }
     }
 
     /// Its number in the message, counted from 0.
@@ -78,6 +78,14 @@ impl<'m> Field<'m> {
         self.row[4] as usize
     }
 
+    /// The number of its values, as its counts say it: characters, elements, rows times columns, or
+    /// 1 for a scalar.
+    #[inline]
+    #[must_use]
+    pub const fn values(&self) -> usize {
+        self.row[5] as usize
+    }
+
     /// Its value bytes, the very part of the message.
     #[inline]
     #[must_use]
@@ -113,6 +121,7 @@ impl fmt::Debug for Field<'_> {
             .field("first", &self.first())
             .field("len", &self.len())
             .field("marks", &self.marks())
+            .field("values", &self.values())
             .finish()
     }
 }

@@ -129,7 +129,7 @@ fn rows<'a>(subjects: [&'a dyn Subject; 2], samples: &'a [Sample]) -> Vec<Row<'a
 
 /// Reading with a table.
 fn reading<'a>(subjects: [&'a dyn Subject; 2], sample: &'a Sample) -> Row<'a> {
-    let mut table = vec![0; 1280];
+    let mut table = vec![0; 1536];
     let mut answer = [0; 21];
     let run = move |who: usize, times: u64| {
         for _ in 0..times {

@@ -168,7 +168,7 @@ impl Driver<'_> {
     fn rewrite(&mut self, random: &mut Random, bytes: &[u8]) -> Result<(), Difference> {
         let input = || format!("rewriting {}", hex(bytes));
         let wrong = |what: &str| Difference(format!("{what}\n{}", input()));
-        let mut table = [0; 5 * 256];
+        let mut table = [0; peer::PER_FIELD * 256];
         let reading = peer::read(bytes, Some(&mut table))
             .map_err(|refusal| wrong(&format!("a sound message is {refusal}")))?;
         let places = reading.frames.map(|(place, _)| place as usize);
@@ -177,7 +177,7 @@ impl Driver<'_> {
         let (_, mut answer) = self.call(Call::Open, input, |subject, lent| {
             subject.open(&opening, &mut lent.out, &mut lent.answer)
         })?;
-        for entry in table.chunks_exact(5).take(reading.fields as usize) {
+        for entry in table.chunks_exact(peer::PER_FIELD).take(reading.fields as usize) {
             let field = &bytes[entry[1] as usize..(entry[2] + entry[3]) as usize];
             let state = state_of(&answer);
             answer = self

@@ -136,6 +136,18 @@ pub(super) fn marks(bytes: &[u8], place: usize) -> u32 {
     }
 }
 
+/// The number of values of the accepted field at `place`, as its counts say it.
+#[inline]
+pub(super) fn values(bytes: &[u8], place: usize) -> u32 {
+    let count = |at| number(bytes, at).map_or(0, u32::from_be_bytes);
+    match bytes[place] {
+        0..=8 | 25..=26 => 1,
+        9..=17 | 27..=28 => count(place + 1),
+        // All values are there, so that the product is no greater than the message.
+        _ => count(place + 1) * count(place + 5),
+    }
+}
+
 /// Copies the code, counts and marks of a field.
 #[inline]
 pub(super) fn copy_head(head: &[u8], out: &mut [u8]) {

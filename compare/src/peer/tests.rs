@@ -39,7 +39,7 @@ fn with_fields(count: u16, payload: &[u8]) -> Vec<u8> {
 /// The answer without a table and, the same, with a table that has room.
 fn judged(message: &[u8]) -> Result<Reading, Refusal> {
     let without = read(message, None);
-    assert_eq!(read(message, Some(&mut [7; 1280])), without);
+    assert_eq!(read(message, Some(&mut [7; 1536])), without);
     without
 }
 
@@ -51,10 +51,10 @@ fn refused(message: &[u8], number: u32, place: u64) {
 
 /// The table of an accepted message, with what follows it untouched.
 #[track_caller]
-fn table_of(message: &[u8]) -> Vec<[u32; 5]> {
+fn table_of(message: &[u8]) -> Vec<[u32; 6]> {
     let mut table = [0xDEAD_BEEF; 1290];
     let reading = read(message, Some(&mut table)).expect("accepted");
-    let (used, rest) = table.split_at(5 * reading.fields as usize);
+    let (used, rest) = table.split_at(6 * reading.fields as usize);
     assert!(rest.iter().all(|&entry| entry == 0xDEAD_BEEF));
-    used.chunks_exact(5).map(|entry| entry.try_into().expect("five")).collect()
+    used.chunks_exact(6).map(|entry| entry.try_into().expect("six")).collect()
 }

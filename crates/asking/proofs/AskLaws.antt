@@ -1,10 +1,11 @@
 -- Asking is reading and then taking field k, so what it answers is what stands at place k of the reading's fields.
-use Prim.Native.Nat.{ℕ, zero, suc, _*_, _≤_, _<_, zero-le}
+use Prim.Native.Nat.{ℕ, zero, suc, _+_, _*_, _≤_, _<_, zero-le}
 use mathlib.Core.Path.{_≡_, refl, ap, sym, _∙_}
 use mathlib.Core.List.{List, [], _∷_}
 use native.Mathlib.Omega.{arith}
 use native.Mathlib.Nat.{not-suc-le-zero, le-of-suc-le-suc}
 use lib.ListN.{length, take, drop}
+use lib.Seq.{drop-append-add}
 use Rattle.sim0mq.specs.Answer.{fine, refused}
 use Rattle.sim0mq.specs.Field.{Field}
 use Rattle.sim0mq.specs.Table.{row, rowSize, rows}
@@ -46,5 +47,5 @@ unfolding nth rows row rowSize
 nth-row [] k f q = absurd (not-fine q)
 nth-row (g ∷ fs) zero f q = ap row (fine-eq q)
 nth-row (g ∷ fs) (suc k) f q =
-    let e : 5 * suc k ≡ suc (suc (suc (suc (suc (5 * k))))) = omega arith in
-    ap (λ (n : ℕ). take 5 (drop n (rows (g ∷ fs)))) e ∙ nth-row fs k f q
+    let e : rowSize * suc k ≡ length (row g) + rowSize * k = omega arith in
+    ap (λ (n : ℕ). take rowSize (drop n (rows (g ∷ fs)))) e ∙ ap (take rowSize) (drop-append-add (row g) (rows fs) (rowSize * k)) ∙ nth-row fs k f q

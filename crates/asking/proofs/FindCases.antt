@@ -1,36 +1,31 @@
--- Field k is the one whose row is kept: the fields before it are passed over, and after it there is no row left. The row tells all of the field, since its values
--- are as many as its bytes make.
+-- Field k is the one whose row is kept: the fields before it are passed over, and after it there is no row left. The row tells all of the field.
 use Prim.Native.Nat.{ℕ, zero, suc, _+_, _-_, _*_, _/_, _≤_, _<_}
-use mathlib.Core.Path.{_≡_, refl, ap, ap₂, sym, _∙_, subst}
+use mathlib.Core.Path.{_≡_, refl, ap, ap₂, sym, _∙_}
 use mathlib.Core.List.{List, [], _∷_, _++_, append-nil, map}
 use native.Mathlib.Omega.{arith}
-use native.Mathlib.Nat.{mul-div-cancel}
-use lib.ListN.{length, getD, drop, drop-of-length-le, length-map}
+use lib.ListN.{length, drop, drop-of-length-le, length-map}
 use lib.Seq.{sets, sets-eq}
 use Rattle.sim0mq.specs.Answer.{fine, refused}
-use Rattle.sim0mq.specs.Codes.{widthOf}
-use Rattle.sim0mq.specs.Field.{Field, after}
-use Rattle.sim0mq.specs.Payload.{payloadFrom, payload, moved}
+use Rattle.sim0mq.specs.Field.{Field}
+use Rattle.sim0mq.specs.Payload.{moved}
 use Rattle.sim0mq.specs.Header.{Header}
-use Rattle.sim0mq.specs.Table.{row as rowOf}
+use Rattle.sim0mq.specs.Table.{row as rowOf, rowSize}
 use Rattle.sim0mq.specs.Message.{noTable}
 use Rattle.sim0mq.proofs.Answers.{fine-eq, not-fine}
-use Rattle.values.proofs.ValueCases.{width-positive}
 use Rattle.parts.specs.Kept.{keptOne, keptAll, rowsIn}
 use Rattle.payload.specs.Parts.{payloadSteps}
 use Rattle.payload.specs.Kept.{keptOf}
-use Rattle.parts.proofs.PartCases.{Goes, field-goes}
 use Rattle.parts.proofs.KeptCases.{rows-within, kept-before, kept-here, kept-full}
-use Rattle.payload.proofs.KeptLaws.{payload-many, front-accepted, taken-more}
+use Rattle.payload.proofs.KeptLaws.{payload-many, front-accepted}
 use Rattle.front.specs.Front.{opening}
 use Rattle.front.proofs.FrontCases.{reading-closed, open-within, open-refused, open-accepted}
 use Rattle.asking.specs.Asking.{nth, asked, fieldIn}
 use Rattle.asking.proofs.AskLaws.{asked-refused, asked-nth, nth-past, nth-finds}
 
--- five numbers stored over five
-sets-all : (kept : List ℕ) (f : Field) → length kept ≡ 5 → sets kept 0 (rowOf f) ≡ rowOf f
-unfolding rowOf
-sets-all kept f e = sets-eq (rowOf f) kept 0 (omega arith) ∙ ap (λ (l : List ℕ). rowOf f ++ l) (drop-of-length-le kept {i = 0 + 5} (omega arith)) ∙ append-nil (rowOf f)
+-- a row stored over a row
+sets-all : (kept : List ℕ) (f : Field) → length kept ≡ rowSize → sets kept 0 (rowOf f) ≡ rowOf f
+unfolding rowOf rowSize
+sets-all kept f e = sets-eq (rowOf f) kept 0 (omega arith) ∙ ap (λ (l : List ℕ). rowOf f ++ l) (drop-of-length-le kept {i = 0 + rowSize} (omega arith)) ∙ append-nil (rowOf f)
 
 -- with one row, nothing after field k is kept
 kept-after : (k i : ℕ) (fs : List Field) (kept : List ℕ) → k < i → keptAll 1 k i fs kept ≡ kept
@@ -41,24 +36,16 @@ kept-after k i (f ∷ fs) kept h =
 
 -- and nothing before it, so that its row is what is kept
 kept-nth : (k i j : ℕ) (fs : List Field) (f : Field) (kept : List ℕ) → k ≡ i + j → nth fs j ≡ fine f → keptAll 1 k i fs kept ≡ sets kept 0 (rowOf f)
-unfolding keptAll nth
+unfolding keptAll nth rowSize
 kept-nth k i j [] f kept e q = absurd (not-fine q)
 kept-nth k i zero (g ∷ fs) f kept e q =
-    let place : 5 * (i - k) ≡ 0 = omega arith in
+    let place : rowSize * (i - k) ≡ 0 = omega arith in
     kept-after k (i + 1) fs (keptOne 1 k i g kept) (omega arith)
     ∙ sym (kept-here 1 k i g kept (omega arith) (omega arith))
     ∙ ap (λ (p : ℕ). sets kept p (rowOf g)) place
     ∙ ap (λ (x : Field). sets kept 0 (rowOf x)) (fine-eq q)
 kept-nth k i (suc j) (g ∷ fs) f kept e q =
     ap (λ (l : List ℕ). keptAll 1 k (i + 1) fs l) (sym (kept-before 1 k i g kept (omega arith))) ∙ kept-nth k (i + 1) j fs f kept (omega arith) q
-
--- field k of an accepted payload stands somewhere in it
-nth-goes : (s : List ℕ) (n at k : ℕ) (fs : List Field) (f : Field) → payloadFrom s n at ≡ fine fs → nth fs k ≡ fine f → (p : ℕ) × Goes s p f
-unfolding nth
-nth-goes s n at k [] f q e = absurd (not-fine e)
-nth-goes s n at zero (g ∷ fs) f q e =
-    let more = taken-more s n at g fs q in (at, subst (Goes s at) (fine-eq e) (field-goes s at g (more .1)))
-nth-goes s n at (suc k) (g ∷ fs) f q e = let more = taken-more s n at g fs q in nth-goes s (more .0) (after g) k fs f (more .2) e
 
 -- field k of moved fields is field k, moved
 nth-moved : (b k : ℕ) (fs : List Field) (f : Field) → nth fs k ≡ fine f → nth (map (moved b) fs) k ≡ fine (moved b f)
@@ -67,18 +54,10 @@ nth-moved b k [] f e = absurd (not-fine e)
 nth-moved b zero (g ∷ fs) f e = ap (λ (x : Field). fine (moved b x)) (fine-eq e)
 nth-moved b (suc k) (g ∷ fs) f e = nth-moved b k fs f e
 
--- a row has five numbers, of which the first is the code
-row-code : (b : ℕ) (f : Field) → f .code ≤ 32 → (getD (rowOf (moved b f)) 0 0 ≤ 32) × (length (rowOf (moved b f)) ≡ 5)
-unfolding rowOf moved
-row-code b f h = (h, refl)
-
 -- the field that its row tells
-row-tells : (b : ℕ) (f : Field) → f .code ≤ 32 → f .size ≡ f .values * widthOf (f .code) → fieldIn (rowOf (moved b f)) ≡ moved b f
-unfolding rowOf moved
-row-tells b f h e =
-    let many : f .size / widthOf (f .code) ≡ f .values
-    = ap (λ (x : ℕ). x / widthOf (f .code)) e ∙ mul-div-cancel (f .values) (width-positive (f .code) h) in
-    λ i. record { code = f .code; place = b + f .place; first = b + f .first; size = f .size; marked = f .marked; values = many i }
+row-tells : (f : Field) → fieldIn (rowOf f) ≡ f
+unfolding rowOf
+row-tells f = refl
 
 -- asking is reading, and then the field
 module _ (s : List ℕ) (k : ℕ) where
@@ -97,21 +76,20 @@ module _ (s : List ℕ) (k : ℕ) where
           sym (asked-nth s k _ (r .2) ∙ nth-past (map (moved (h .next)) (r .0)) k (omega arith))
 
       -- the row that is kept of it
-      pub ask-found : (kept row : List ℕ) → length kept ≡ 5 → row ≡ keptOf s next n k kept → k < n
-          → (getD row 0 0 ≤ 32) × (length row ≡ 5) × (fine (fieldIn row) ≡ asked s k)
-      unfolding keptOf payload
-      ask-found kept row five d l =
+      pub ask-found : (kept row : List ℕ) → length kept ≡ rowSize → row ≡ keptOf s next n k kept → k < n
+          → fine (fieldIn row) ≡ asked s k
+      unfolding keptOf rowSize
+      ask-found kept row long d l =
           let r = open-accepted noTable s h a n next p q steps e in
           let many : length (r .0) ≡ n = payload-many (drop next s) n (r .0) (r .1) in
           let found = nth-finds (r .0) k (omega arith) in
           let f = found .0 in
-          let goes = nth-goes (drop next s) n 0 k (r .0) f (r .1) (found .1) .1 in
-          let one : rowsIn (length s) (length kept) ≡ 1 = sym (rows-within (length s) (length kept) (open-within noTable s h a n next p q .0)) ∙ ap (λ (x : ℕ). x / 5) five in
+          let one : rowsIn (length s) (length kept) ≡ 1 = sym (rows-within (length s) (length kept) (open-within noTable s h a n next p q .0)) ∙ ap (λ (x : ℕ). x / rowSize) long in
           let kept-is : keptOf s next n k kept ≡ sets kept 0 (rowOf (moved next f))
           =
           ap₂ (λ (m : ℕ) (l : List Field). keptAll m k 0 (map (moved next) l) kept) one (front-accepted (drop next s) n (r .0) (r .1))
           ∙ kept-nth k 0 k (map (moved next) (r .0)) (moved next f) kept (omega arith) (nth-moved next k (r .0) f (found .1)) in
-          let row-is : row ≡ rowOf (moved next f) = d ∙ kept-is ∙ sets-all kept (moved next f) five in
+          let row-is : row ≡ rowOf (moved next f) = d ∙ kept-is ∙ sets-all kept (moved next f) long in
           let answer : asked s k ≡ fine (moved next f)
           = asked-nth s k _ (r .2) ∙ ap (λ (b : ℕ). nth (map (moved b) (r .0)) k) q ∙ nth-moved next k (r .0) f (found .1) in
-          rw row-is (row-code next f (goes .code) .0, row-code next f (goes .code) .1, ap fine (row-tells next f (goes .code) (goes .sized)) ∙ sym answer)
+          ap (λ (l : List ℕ). fine (fieldIn l)) row-is ∙ ap fine (row-tells (moved next f)) ∙ sym answer

@@ -1,9 +1,8 @@
 -- Asking (01, "What reading returns" and refusal 16): the field k of a message that is read afresh, with no table.
-use Prim.Native.Nat.{ℕ, zero, suc, _/_}
+use Prim.Native.Nat.{ℕ, zero, suc}
 use mathlib.Core.List.{List, [], _∷_}
 use lib.ListN.{getD, take, drop}
 use Rattle.sim0mq.specs.Answer.{Answer, fine, refused, _>>=_}
-use Rattle.sim0mq.specs.Codes.{widthOf}
 use Rattle.sim0mq.specs.Field.{Field}
 use Rattle.sim0mq.specs.Message.{noTable, reading}
 
@@ -24,7 +23,7 @@ abbrev pub viewOf : List ℕ → Answer Field → List ℕ
 viewOf s (fine f) = take (f .size) (drop (f .first) s)
 viewOf s (refused k p) = []
 
--- The field whose row this is: it has as many values as its bytes make.
+-- The field whose row this is.
 abbrev pub fieldIn : List ℕ → Field
 fieldIn r =
     record {
@@ -33,5 +32,5 @@ fieldIn r =
       first = getD r 2 0;
       size = getD r 3 0;
       marked = getD r 4 0;
-      values = getD r 3 0 / widthOf (getD r 0 0);
+      values = getD r 5 0;
     }

@@ -1,7 +1,5 @@
 // Asking: the field k of a message, read afresh, and a view of its value bytes.
 ghost use mathlib.Core.Path.{_≡_};
-ghost use Prim.Native.Nat.{_≤_};
-ghost use lib.ListN.{length, getD};
 ghost use Rattle.fields.specs.Items.{fielded, seen};
 ghost use Rattle.asking.specs.Asking.{asked, viewOf, fieldIn};
 use fields::Field;
@@ -9,26 +7,23 @@ use fields::Fielded;
 use front::Lent;
 use front::opened;
 use header::Said;
-use numbers::wide16;
+use numbers::wide32;
 use payload::payload;
 use sim0mq::Judged;
+use sim0mq::ROW;
 use sim0mq::Refusal;
-use tables::width;
 
 // The field whose row this is.
-fn field_in(row: &[u16]) -> Field
-    requires { ⌜ (length (now row) ≡ 5) × (getD (now row) 0 0 ≤ 32) ⌝ }
+fn field_in(row: &[u32; ROW]) -> Field
     ensures { λ r. ⌜ seen r ≡ fieldIn (now (row .entry)) ⌝ }
 {
-    let code = wide16(row[0]);
-    let size = wide16(row[3]);
     Field {
-        code,
-        place: wide16(row[1]),
-        first: wide16(row[2]),
-        size,
-        marked: wide16(row[4]),
-        values: size / width(code),
+        code: wide32(row[0]),
+        place: wide32(row[1]),
+        first: wide32(row[2]),
+        size: wide32(row[3]),
+        marked: wide32(row[4]),
+        values: wide32(row[5]),
     }
 }
 
@@ -41,7 +36,7 @@ pub fn ask(message: &[u8], k: usize) -> Fielded
     match said {
         Said::Refused(r) => Fielded::Refused(r),
         Said::Accepted(e) => {
-            let mut row = [0u16; 5];
+            let mut row = [0u32; ROW];
             match payload(message, e.next, e.fields, k, &mut row) {
                 Judged::Refused(r) => Fielded::Refused(r),
                 Judged::Accepted(_) => {

@@ -4,6 +4,7 @@ use libc::STDERR_FILENO;
 use libc::STDOUT_FILENO;
 use reading::Reading;
 use sim0mq::Judged;
+use sim0mq::LIMIT;
 use sim0mq::Refusal;
 
 // Writes `bytes` to standard output; a line to standard error where that cannot be done.
@@ -23,7 +24,7 @@ fn refused(refusal: Refusal) {
 
 // Writes the blanked copy of `message`, or the line of its refusal.
 fn print(message: &[u8]) {
-    let mut copy = [0u8; 32768];
+    let mut copy = [0u8; LIMIT];
     match blanking::blank(message, &mut copy) {
         Judged::Accepted(length) => write(&copy[0..length]),
         Judged::Refused(refusal) => refused(refusal),
@@ -32,7 +33,7 @@ fn print(message: &[u8]) {
 
 // Blanks standard input, of which one byte more than a message may have is read; a line to standard error where it cannot be read.
 fn main() {
-    let mut bytes = [0u8; 32769];
+    let mut bytes = [0u8; LIMIT + 1];
     match input::fill(&mut bytes) {
         Input::Bytes(n) => print(&bytes[0..n]),
         Input::Failed => {

@@ -11,7 +11,7 @@ use Rattle.sim0mq.specs.Answer.{Answer, fine, refused, partAt}
 use Rattle.sim0mq.specs.Field.{Field, after}
 use Rattle.sim0mq.specs.Header.{Header}
 use Rattle.sim0mq.specs.Payload.{payloadFrom, payload, moved}
-use Rattle.sim0mq.specs.Message.{limit, noTable, reading}
+use Rattle.sim0mq.specs.Message.{noTable, reading}
 use Rattle.sim0mq.specs.Table.{row, rows, rowSize, stored, placed}
 use Rattle.sim0mq.specs.Blank.{zeroed, blanked, blanking, outputAfter}
 use Rattle.sim0mq.specs.Allowed.{Each, none, more}
@@ -64,7 +64,7 @@ pub record Left (s kept all out : List ℕ) (n at i : ℕ) : Type 0 where
   pub fields : List Field
   pub others : List ℕ
   pub chained : Chained s at fields
-  pub rowed : drop (5 * i) kept ≡ rows fields ++ others
+  pub rowed : drop (rowSize * i) kept ≡ rows fields ++ others
   pub many : length fields + i ≡ n
   pub whole : all ≡ blanked (placed out at (drop at s)) fields
   pub room : length s ≤ length out
@@ -72,7 +72,7 @@ pub record Left (s kept all out : List ℕ) (n at i : ℕ) : Type 0 where
 -- at first all of them
 pub left-start : (s : List ℕ) (next n : ℕ) (kept out : List ℕ) → Blankable s next n kept out
     → Left s kept (blanked (placed out next (drop next s)) (fieldsOf s next n)) out n next 0
-unfolding fieldsOf payload
+unfolding fieldsOf payload rowSize
 left-start s next n kept out b =
     let fs = taken (payload (drop next s) n) in
     let zero-more : next + 0 ≡ next = omega arith in
@@ -88,32 +88,32 @@ left-start s next n kept out b =
     }
 
 -- what stands past a row
-row-past : (f : Field) (l : List ℕ) → drop 5 (row f ++ l) ≡ l
-unfolding row
+row-past : (f : Field) (l : List ℕ) → drop rowSize (row f ++ l) ≡ l
+unfolding row rowSize
 row-past f l = refl
 
 -- the next row, and the turn that it makes
 module _ (s kept all out : List ℕ) (n at i : ℕ) where
   -- a row's numbers, told by what stands from it on
   abbrev Told : List ℕ → Field → Type 0
-  Told others f = (getD kept (5 * i + 2) 0 ≡ f .first) × (getD kept (5 * i + 3) 0 ≡ f .size) × (5 * i + 5 ≤ length kept)
+  Told others f = (getD kept (rowSize * i + 2) 0 ≡ f .first) × (getD kept (rowSize * i + 3) 0 ≡ f .size) × (rowSize * i + rowSize ≤ length kept)
 
-  row-told : (f : Field) (others : List ℕ) → drop (5 * i) kept ≡ row f ++ others → Told others f
-  unfolding row
+  row-told : (f : Field) (others : List ℕ) → drop (rowSize * i) kept ≡ row f ++ others → Told others f
+  unfolding row rowSize
   row-told f others e =
-      let long : length (drop (5 * i) kept) ≡ 5 + length others = ap length e ∙ length-append (row f) others in (
-        sym (getD-drop (5 * i) kept 2 0) ∙ ap (λ (l : List ℕ). getD l 2 0) e,
-        sym (getD-drop (5 * i) kept 3 0) ∙ ap (λ (l : List ℕ). getD l 3 0) e,
-        omega (arith, length-drop (5 * i) kept),
+      let long : length (drop (rowSize * i) kept) ≡ rowSize + length others = ap length e ∙ length-append (row f) others in (
+        sym (getD-drop (rowSize * i) kept 2 0) ∙ ap (λ (l : List ℕ). getD l 2 0) e,
+        sym (getD-drop (rowSize * i) kept 3 0) ∙ ap (λ (l : List ℕ). getD l 3 0) e,
+        omega (arith, length-drop (rowSize * i) kept),
       )
 
   pub left-row : Left s kept all out n at i → i < n
-      → (at ≤ getD kept (5 * i + 2) 0) × (getD kept (5 * i + 2) 0 + getD kept (5 * i + 3) 0 ≤ length s) × (5 * i + 5 ≤ length kept)
-  unfolding rows
+      → (at ≤ getD kept (rowSize * i + 2) 0) × (getD kept (rowSize * i + 2) 0 + getD kept (rowSize * i + 3) 0 ≤ length s) × (rowSize * i + rowSize ≤ length kept)
+  unfolding rows rowSize
   left-row l h = go (l .fields) (l .chained) (l .rowed) (l .many)
     where
-      go : (fs : List Field) → Chained s at fs → drop (5 * i) kept ≡ rows fs ++ l .others → length fs + i ≡ n
-          → (at ≤ getD kept (5 * i + 2) 0) × (getD kept (5 * i + 2) 0 + getD kept (5 * i + 3) 0 ≤ length s) × (5 * i + 5 ≤ length kept)
+      go : (fs : List Field) → Chained s at fs → drop (rowSize * i) kept ≡ rows fs ++ l .others → length fs + i ≡ n
+          → (at ≤ getD kept (rowSize * i + 2) 0) × (getD kept (rowSize * i + 2) 0 + getD kept (rowSize * i + 3) 0 ≤ length s) × (rowSize * i + rowSize ≤ length kept)
       go [] c e m = absurd (omega arith)
       go (f ∷ fs) (going a b c) e m =
           let t = row-told f (rows fs ++ l .others) (e ∙ append-assoc (row f) (rows fs) (l .others)) in
@@ -123,7 +123,7 @@ module _ (s kept all out : List ℕ) (n at i : ℕ) where
           (omega arith, omega arith, omega arith)
 
   -- with the numbers that the code has of it
-  pub left-stands : Left s kept all out n at i → i < n → (first size : ℕ) → first ≡ getD kept (5 * i + 2) 0 → size ≡ getD kept (5 * i + 3) 0
+  pub left-stands : Left s kept all out n at i → i < n → (first size : ℕ) → first ≡ getD kept (rowSize * i + 2) 0 → size ≡ getD kept (rowSize * i + 3) 0
       → (at ≤ first) × (first + size ≤ length s)
   left-stands l h first size p q =
       let r = left-row l h in
@@ -132,13 +132,13 @@ module _ (s kept all out : List ℕ) (n at i : ℕ) where
       (omega arith, omega arith)
 
   pub left-turn : Left s kept all out n at i → i < n → (first size : ℕ) (copied next : List ℕ)
-      → first ≡ getD kept (5 * i + 2) 0 → size ≡ getD kept (5 * i + 3) 0
+      → first ≡ getD kept (rowSize * i + 2) 0 → size ≡ getD kept (rowSize * i + 3) 0
       → copied ≡ putIn out at (take (first - at) (drop at s)) → next ≡ clearedIn copied first size → length next ≡ length out
       → Left s kept all next n (first + size) (i + 1)
-  unfolding rows blanked
+  unfolding rows blanked rowSize
   left-turn l h first size copied next p q c z same = go (l .fields) (l .chained) (l .rowed) (l .many) (l .whole)
     where
-      go : (fs : List Field) → Chained s at fs → drop (5 * i) kept ≡ rows fs ++ l .others → length fs + i ≡ n
+      go : (fs : List Field) → Chained s at fs → drop (rowSize * i) kept ≡ rows fs ++ l .others → length fs + i ≡ n
           → all ≡ blanked (placed out at (drop at s)) fs → Left s kept all next n (first + size) (i + 1)
       go [] d e m w = absurd (omega arith)
       go (f ∷ fs) (going a b d) e m w =
@@ -147,14 +147,14 @@ module _ (s kept all out : List ℕ) (n at i : ℕ) where
           let first-is : first ≡ f .first = p ∙ t .0 in
           let size-is : size ≡ f .size = q ∙ t .1 in
           let ends : f .first + f .size ≡ first + size = omega arith in
-          let place : 5 * i + 5 ≡ 5 * (i + 1) = omega arith in
+          let place : rowSize * i + rowSize ≡ rowSize * (i + 1) = omega arith in
           let room = l .room in
           let turn = placed-turn out s at first size copied next (omega arith) (omega arith) (omega arith) c z in
           record {
             fields = fs;
             others = l .others;
             chained = subst (λ (x : ℕ). Chained s x fs) ends d;
-            rowed = ap (λ (k : ℕ). drop k kept) (sym place) ∙ sym (drop-drop 5 (5 * i) kept) ∙ ap (drop 5) whole-row ∙ row-past f (rows fs ++ l .others);
+            rowed = ap (λ (k : ℕ). drop k kept) (sym place) ∙ sym (drop-drop rowSize (rowSize * i) kept) ∙ ap (drop rowSize) whole-row ∙ row-past f (rows fs ++ l .others);
             many = omega arith;
             whole = w ∙ ap₂ (λ (x y : ℕ). blanked (zeroed (placed out at (drop at s)) x y) fs) (sym first-is) (sym size-is) ∙ ap (λ (o : List ℕ). blanked o fs) turn;
             room = omega arith;
@@ -201,7 +201,7 @@ module _ (room : ℕ) (s : List ℕ) (next n : ℕ) where
       copy-fine l = let a = at-taken s next n (h .within) steps e in simp (a .1, le-leb (length s) room l)
 
       pub copy-blankable : (k m out : List ℕ) → length k ≡ kept → m ≡ keptOf s next n 0 k → length s ≤ length out → Blankable s next n m out
-      unfolding fieldsOf limit rowSize stored
+      unfolding fieldsOf stored
       copy-blankable k m out long d l =
           let a = at-taken s next n (h .within) steps e in
           let keeps = h .keeps in
@@ -245,8 +245,8 @@ module _ (room : ℕ) (s : List ℕ) where
   blank-closed k p e = simp (reading-closed noTable s k p e)
 
   module _ (h : Header) (a : opening noTable s ≡ fine h) (n next : ℕ) (p : h .fields ≡ n) (q : h .next ≡ next) where
-    pub blank-copyable : Copyable s next n 1280
-    unfolding limit rowSize
+    pub blank-copyable : Copyable s next n (256 * rowSize)
+    unfolding rowSize
     blank-copyable =
         let w = open-within noTable s h a n next p q in
         let most = w .2 in

@@ -1,30 +1,32 @@
 // Blanking: a copy of a message that has zero in every payload value byte, so that it shows how the message is built and nothing of what it says.
 ghost use mathlib.Core.Path.{_≡_};
+ghost use Prim.Native.Nat.{_*_};
 ghost use lib.ListN.{length, drop};
 ghost use Rattle.sim0mq.specs.Blank.{blanked, blanking, outputAfter};
 ghost use Rattle.sim0mq.specs.Views.{judged as told};
 ghost use Rattle.blanking.specs.Blanking.{lengthOf, copying, fieldsOf, Copyable, Blankable};
-ghost use Rattle.sim0mq.specs.Table.{placed};
+ghost use Rattle.sim0mq.specs.Table.{placed, rowSize};
 use buffers::clear;
 use buffers::put;
 use front::Lent;
 use front::opened;
 use header::Said;
-use numbers::wide16;
+use numbers::wide32;
 use payload::payload;
 use sim0mq::Judged;
+use sim0mq::ROW;
 
 // The copy of an accepted message in `out`, from `next` on, where its payload of n fields begins, whose rows are kept: of each field its code, counts and marks,
 // and zero for its value bytes, which are not read.
-fn blank_fields(message: &[u8], next: usize, n: usize, kept: &[u16], out: &mut [u8])
+fn blank_fields(message: &[u8], next: usize, n: usize, kept: &[u32], out: &mut [u8])
     requires { ⌜ Blankable (now message) next n (now kept) (now out) ⌝ }
     ensures { λ _. ⌜ now (out .exit) ≡ blanked (placed (now (out .entry)) next (drop next (now (message .entry)))) (fieldsOf (now (message .entry)) next n) ⌝ }
 {
     let mut at = next;
     let mut k: usize = 0;
     while k < n {
-        let first = wide16(kept[5 * k + 2]);
-        let size = wide16(kept[5 * k + 3]);
+        let first = wide32(kept[ROW * k + 2]);
+        let size = wide32(kept[ROW * k + 3]);
         put(&message[at..first], out, at);
         clear(out, first, size);
         at = first + size;
@@ -34,7 +36,7 @@ fn blank_fields(message: &[u8], next: usize, n: usize, kept: &[u16], out: &mut [
 
 // Judges the payload of n fields that begins at `next`, and makes the copy once it is accepted and there is room for it: the copy's length, or the refusal.
 // `kept` holds the fields' rows.
-fn copied_by(message: &[u8], next: usize, n: usize, kept: &mut [u16], out: &mut [u8]) -> Judged
+fn copied_by(message: &[u8], next: usize, n: usize, kept: &mut [u32], out: &mut [u8]) -> Judged
     requires { ⌜ Copyable (now message) next n (length (now kept)) ⌝ }
     ensures answer { λ r. ⌜ told r ≡ lengthOf (copying (length (now (out .entry))) (now (message .entry)) next n) ⌝ }
     ensures copied { λ _. ⌜ now (out .exit) ≡ outputAfter (now (out .entry)) (copying (length (now (out .entry))) (now (message .entry)) next n) ⌝ }
@@ -54,15 +56,15 @@ fn copied_by(message: &[u8], next: usize, n: usize, kept: &mut [u16], out: &mut 
 
 // Judges the payload of n fields that begins at `next`, and makes the copy once it is accepted and there is room for it: the copy's length, or the refusal.
 fn copied(message: &[u8], next: usize, n: usize, out: &mut [u8]) -> Judged
-    requires { ⌜ Copyable (now message) next n 1280 ⌝ }
+    requires { ⌜ Copyable (now message) next n (256 * rowSize) ⌝ }
     ensures answer { λ r. ⌜ told r ≡ lengthOf (copying (length (now (out .entry))) (now (message .entry)) next n) ⌝ }
     ensures copied { λ _. ⌜ now (out .exit) ≡ outputAfter (now (out .entry)) (copying (length (now (out .entry))) (now (message .entry)) next n) ⌝ }
 {
     if n <= 8 {
-        let mut few = [0u16; 40];
+        let mut few = [0u32; 8 * ROW];
         return copied_by(message, next, n, &mut few, out);
     }
-    let mut all = [0u16; 1280];
+    let mut all = [0u32; 256 * ROW];
     copied_by(message, next, n, &mut all, out)
 }
 

@@ -29,7 +29,7 @@ use Rattle.marks.proofs.marks.Reads as marks
 use Rattle.displays.proofs.currency_taken.Reads as currency-taken
 use Rattle.displays.proofs.display_taken.Reads as display-taken
 use Rattle.numbers.proofs.wide.Reads as wide
-use Rattle.numbers.proofs.wide16.Reads as wide16
+use Rattle.numbers.proofs.wide32.Reads as wide32
 use Rattle.numbers.proofs.number.Reads as number
 use Rattle.numbers.proofs.count.Reads as count
 use Rattle.buffers.proofs.put.Reads as put-text
@@ -167,8 +167,8 @@ per-result = equated per.Post (λ κs z e. z) _ (λ κs a z e p. p)
 pub wide-result : Determines wide.Post (λ κs z e. z)
 wide-result = equated wide.Post (λ κs z e. z) _ (λ κs a z e p. p .0)
 
-pub wide16-result : Determines wide16.Post (λ κs z e. z)
-wide16-result = equated wide16.Post (λ κs z e. z) _ (λ κs a z e p. p .0)
+pub wide32-result : Determines wide32.Post (λ κs z e. z)
+wide32-result = equated wide32.Post (λ κs z e. z) _ (λ κs a z e p. p .0)
 
 pub number-result : Determines number.Post (λ κs z e. z)
 number-result = equated number.Post (λ κs z e. z) _ (λ κs a z e p. p .0)

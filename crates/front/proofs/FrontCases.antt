@@ -34,9 +34,9 @@ pub enough-none : (n : ℕ) → true ≡ enough M.noTable n
 unfolding enough
 enough-none n = refl
 
-pub enough-table : (r n : ℕ) → leb n (r / 5) ≡ enough (M.table r) n
+pub enough-table : (r n : ℕ) → leb n (r / rowSize) ≡ enough (M.table r) n
 unfolding enough rowSize
-enough-table r n = room-test n 5 r 5 refl (lit< tt) ∙ ap (λ (k : ℕ). leb k r) (mul-comm n 5)
+enough-table r n = room-test n rowSize r rowSize refl (lit< tt) ∙ ap (λ (k : ℕ). leb k r) (mul-comm n rowSize)
 
 -- what a header's answer says
 module _ (frames : List Frame) where
@@ -114,8 +114,7 @@ module _ (lent : M.Lent) (s : List ℕ) where
 
     -- with the numbers that the code has of it
     module _ (n next : ℕ) (p : h .fields ≡ n) (q : h .next ≡ next) where
-      pub open-within : (length s ≤ 32768) × (next ≤ length s) × (n ≤ 256) × (enough lent n ≡ true)
-      unfolding limit
+      pub open-within : (length s ≤ limit) × (next ≤ length s) × (n ≤ 256) × (enough lent n ≡ true)
       open-within =
           let parts = open-parts in
           let within = header-within s h (parts .1) in

@@ -7,7 +7,8 @@ ghost use Rattle.front.specs.Front.{lentOf, noFrames, opening};
 use header::Frame;
 use header::Said;
 use header::header;
-use parts::LIMIT;
+use sim0mq::LIMIT;
+use sim0mq::ROW;
 use sim0mq::Refusal;
 
 // What is lent beside the message: no table, or a table of so many numbers.
@@ -22,7 +23,7 @@ fn enough(lent: Lent, n: usize) -> bool
 {
     match lent {
         Lent::NoTable => true,
-        Lent::Table(r) => n <= r / 5,
+        Lent::Table(r) => n <= r / ROW,
     }
 }
 

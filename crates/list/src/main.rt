@@ -2,10 +2,12 @@
 use input::Input;
 use libc::STDERR_FILENO;
 use libc::STDOUT_FILENO;
+use sim0mq::LIMIT;
+use sim0mq::ROW;
 
 // Writes what reading answers of `message`, as text, to standard output; a line to standard error where that cannot be written.
 fn print(message: &[u8]) {
-    let mut table = [0u32; 1280];
+    let mut table = [0u32; 256 * ROW];
     let answer = reading::read(message, &mut table);
     let said = answer.said;
     let mut text = [0u8; 16384];
@@ -18,7 +20,7 @@ fn print(message: &[u8]) {
 
 // Lists standard input, of which one byte more than a message may have is read; a line to standard error where it cannot be read.
 fn main() {
-    let mut bytes = [0u8; 32769];
+    let mut bytes = [0u8; LIMIT + 1];
     match input::fill(&mut bytes) {
         Input::Bytes(n) => print(&bytes[0..n]),
         Input::Failed => {

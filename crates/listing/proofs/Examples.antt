@@ -8,8 +8,8 @@ use Rattle.reading.specs.declared.Reading.the-variants.{Accepted, Refused}
 use Rattle.pieces.specs.Decimal.{places, decimal}
 use Rattle.listing.specs.Text.{ascii, acceptedText, refusedText, numbersText, rowText, rowsText, wholeText}
 
-accepted : joined (wholeText (Accepted (record { length = 77; fields = 1; steps = 9 })) (5 ∷ 68 ∷ 69 ∷ 8 ∷ 0 ∷ []))
-    ≡ ascii "SIM01 fields 1 steps 9 length 77\n0 5 68 69 8 0\n"
+accepted : joined (wholeText (Accepted (record { length = 77; fields = 1; steps = 9 })) (5 ∷ 68 ∷ 69 ∷ 8 ∷ 0 ∷ 1 ∷ []))
+    ≡ ascii "SIM01 fields 1 steps 9 length 77\n0 5 68 69 8 0 1\n"
 unfolding places decimal acceptedText numbersText rowText rowsText enough rowSize flatMap
 accepted = refl
 

@@ -1,11 +1,12 @@
 // What reading answered, as text: the lines that document 01 shows under "Examples".
 //
-// The text is put into a lent buffer by the calls of `pieces`. The longest text has a first line of at most 72 bytes and 256 rows of at most 59, so
-// 16,384 bytes are always enough.
+// The text is put into a lent buffer by the calls of `pieces`. The longest text has a first line of at most 72 bytes and 256 rows of at most 37
+// (no number of a row is above the most bytes of a message), so 16,384 bytes are always enough.
 use pieces::number;
 use pieces::put;
 use reading::Found;
 use reading::Reading;
+use sim0mq::ROW;
 use sim0mq::Refusal;
 ghost use mathlib.Core.Path.{_≡_};
 ghost use Prim.Native.Nat.{_*_, _≤_};
@@ -14,9 +15,6 @@ ghost use Rattle.io.specs.Counts.{Counts};
 ghost use Rattle.sim0mq.specs.Table.{rowSize};
 ghost use Rattle.listing.specs.Put.{buffer, putAll, outAfter, bytesBefore, bytesOf};
 ghost use Rattle.listing.specs.Text.{acceptedText, refusedText, rowText, rowsText, lineText, wholeText};
-
-// How many table numbers a field has.
-const ROW: usize = 5;
 
 // The text of what reading answered, at the front of `out`: how many bytes it has, and 0 where `out` is too short for it or `table` for its rows.
 // Each line ends with a newline. Where `table` is too short, nothing is put.

@@ -13,9 +13,9 @@ pub fn wide(x: u8) -> usize
     x as usize
 }
 
-// A number of sixteen bits, as wide as a place.
-pub fn wide16(n: u16) -> usize
-    ensures { λ r. ⌜ (r ≡ n) × (r < 65536) ⌝ }
+// A number of 32 bits, as wide as a place.
+pub fn wide32(n: u32) -> usize
+    ensures { λ r. ⌜ (r ≡ n) × (r < 4294967296) ⌝ }
 {
     n as usize
 }

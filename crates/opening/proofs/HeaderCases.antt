@@ -101,17 +101,17 @@ module _ (n status c fields room : ℕ) where
       unfolding numbersJudged
       numbers-rest = simp (status-taken status low high, count-typed c typed, count-held c fields typed few held, f)
 
-      pub numbers-long : 32768 - front < n → numbersJudged n status c fields room ≡ refused 8 0
+      pub numbers-long : limit - front < n → numbersJudged n status c fields room ≡ refused 8 0
       unfolding limit
-      numbers-long h = numbers-rest ∙ simp (lt-leb (front + n) 32768 (omega (arith, eight-wide c)))
+      numbers-long h = numbers-rest ∙ simp (lt-leb (front + n) limit (omega (arith, eight-wide c)))
 
-      pub numbers-room : n ≤ 32768 - front → room < front + n → numbersJudged n status c fields room ≡ refused 14 0
+      pub numbers-room : n ≤ limit - front → room < front + n → numbersJudged n status c fields room ≡ refused 14 0
       unfolding limit
-      numbers-room h k = numbers-rest ∙ simp (le-leb (front + n) 32768 (omega (arith, eight-wide c)), lt-leb (front + n) room k)
+      numbers-room h k = numbers-rest ∙ simp (le-leb (front + n) limit (omega (arith, eight-wide c)), lt-leb (front + n) room k)
 
-      pub numbers-fine : n ≤ 32768 - front → front + n ≤ room → numbersJudged n status c fields room ≡ fine (front + n)
+      pub numbers-fine : n ≤ limit - front → front + n ≤ room → numbersJudged n status c fields room ≡ fine (front + n)
       unfolding limit
-      numbers-fine h k = numbers-rest ∙ simp (le-leb (front + n) 32768 (omega (arith, eight-wide c)), le-leb (front + n) room k)
+      numbers-fine h k = numbers-rest ∙ simp (le-leb (front + n) limit (omega (arith, eight-wide c)), le-leb (front + n) room k)
 
 -- the opening: the ids, then the numbers
 module _ (ids : List ℕ) (status c fields room : ℕ) where

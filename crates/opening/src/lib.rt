@@ -13,6 +13,7 @@ use numbers::wide;
 use puts::bits;
 use puts::put_number;
 use sim0mq::Judged;
+use sim0mq::LIMIT;
 use tables::width;
 
 const FRAME_0: [u8; 10] = [9, 0, 0, 0, 5, 83, 73, 77, 48, 49];
@@ -84,7 +85,7 @@ fn judge_numbers(n: usize, status: u8, code: u8, fields: usize, room: usize) -> 
         }
     }
     let front = 22 + width(wide(code));
-    if 32768 - front < n {
+    if LIMIT - front < n {
         return sim0mq::refuse(8, 0);
     }
     if room < front + n {

@@ -18,28 +18,28 @@ use Rattle.sim0mq.specs.Message.{limit}
 use Rattle.parts.specs.Kept.{first, front, keptOne, keptAll, rowsIn, keptPart}
 
 -- the rows that there are
-pub rows-within : (bytes numbers : ℕ) → bytes ≤ 32768 → numbers / 5 ≡ rowsIn bytes numbers
-unfolding rowsIn limit rowSize
-rows-within bytes numbers h = simp (le-leb bytes 32768 h)
+pub rows-within : (bytes numbers : ℕ) → bytes ≤ limit → numbers / rowSize ≡ rowsIn bytes numbers
+unfolding rowsIn
+rows-within bytes numbers h = simp (le-leb bytes limit h)
 
-pub rows-none : (bytes numbers : ℕ) → 32768 < bytes → 0 ≡ rowsIn bytes numbers
-unfolding rowsIn limit rowSize
-rows-none bytes numbers h = simp (lt-leb bytes 32768 h)
+pub rows-none : (bytes numbers : ℕ) → limit < bytes → 0 ≡ rowsIn bytes numbers
+unfolding rowsIn
+rows-none bytes numbers h = simp (lt-leb bytes limit h)
 
-pub rows-room : (bytes numbers : ℕ) → 5 * rowsIn bytes numbers ≤ numbers
+pub rows-room : (bytes numbers : ℕ) → rowSize * rowsIn bytes numbers ≤ numbers
 unfolding rowsIn rowSize
 rows-room bytes numbers = go (leb bytes limit)
   where
-    go : (b : Bool) → 5 * cond b (numbers / 5) 0 ≤ numbers
+    go : (b : Bool) → rowSize * cond b (numbers / rowSize) 0 ≤ numbers
     go true = omega arith
     go false = omega arith
 
-pub rows-some : (bytes numbers : ℕ) → 0 < rowsIn bytes numbers → bytes ≤ 32768
-unfolding rowsIn limit
-rows-some bytes numbers h = go (leb bytes 32768) refl h
+pub rows-some : (bytes numbers : ℕ) → 0 < rowsIn bytes numbers → bytes ≤ limit
+unfolding rowsIn
+rows-some bytes numbers h = go (leb bytes limit) refl h
   where
-    go : (b : Bool) → leb bytes 32768 ≡ b → 0 < cond b (numbers / rowSize) 0 → bytes ≤ 32768
-    go true e h = leb-true bytes 32768 e
+    go : (b : Bool) → leb bytes limit ≡ b → 0 < cond b (numbers / rowSize) 0 → bytes ≤ limit
+    go true e h = leb-true bytes limit e
     go false e h = absurd (not-suc-le-zero h)
 
 -- one field
@@ -48,8 +48,8 @@ module _ (many k i : ℕ) (f : Field) (kept : List ℕ) where
   unfolding keptOne
   kept-before h = simp (lt-ltb i k h)
 
-  pub kept-here : k ≤ i → i - k < many → sets kept (5 * (i - k)) (row f) ≡ keptOne many k i f kept
-  unfolding keptOne rowSize
+  pub kept-here : k ≤ i → i - k < many → sets kept (rowSize * (i - k)) (row f) ≡ keptOne many k i f kept
+  unfolding keptOne
   kept-here h l = simp (le-ltb i k h, lt-ltb (i - k) many l)
 
   pub kept-full : k ≤ i → many ≤ i - k → kept ≡ keptOne many k i f kept

@@ -4,7 +4,7 @@ use mathlib.Core.Path.{_≡_, refl, ap, _∙_, subst}
 use mathlib.Core.List.{List, _∷_}
 use native.Mathlib.Omega.{arith}
 use native.Mathlib.Numerals.{add-one}
-use native.Mathlib.Nat.{add-zero}
+use native.Mathlib.Nat.{add-zero, le-mul-of-pos-right}
 use lib.ListN.{length}
 use borrow.Author.Tests.{le-leb, lt-leb, leb-true}
 use Rattle.sim0mq.specs.Answer.{Answer, fine, refused, _>>=_, need, byte}
@@ -12,6 +12,7 @@ use Rattle.sim0mq.specs.Codes.{codeKnown, countsOf, widthOf}
 use Rattle.sim0mq.specs.Mark.{mark, marks}
 use Rattle.sim0mq.specs.Field.{count, Counted, counts, Head, headRest, head, booleans, booleansOf, Field, fieldOf, after, outline, field}
 use Rattle.sim0mq.specs.Payload.{payloadFrom, steps}
+use Rattle.sim0mq.specs.Message.{limit}
 use Rattle.sim0mq.specs.Allowed.{IsMark, withDisplay, withCurrency, withBoth}
 use Rattle.sim0mq.proofs.Answers.{needed, needed-bind, guarded, bind-fine, fine-eq}
 use Rattle.sim0mq.proofs.MarkLaws.{mark-sound}
@@ -19,7 +20,7 @@ use Rattle.sim0mq.proofs.FieldLaws.{count-sound}
 use Rattle.values.specs.Values.{sizeOf, sizeAt, booleansEnd, valuesEnd}
 use Rattle.parts.specs.Parts.{stepsFrom}
 use Rattle.parts.specs.Kept.{Small}
-use Rattle.values.proofs.ValueCases.{size-goes}
+use Rattle.values.proofs.ValueCases.{size-goes, width-positive}
 
 -- how far each item goes
 mark-long : {l : List ℕ} → IsMark l → 2 ≤ length l
@@ -165,14 +166,14 @@ module _ (s : List ℕ) where
       let e : byte s at ≡ h .code = ap (λ (x : Head). x .code) (fine-eq (d .2)) in
       subst (λ (c : ℕ). c ≤ 32) e (leb-true _ 32 (b .0))
 
--- where an accepted field stands: it begins at its place, its numbers are no greater than the bytes, and its values are as many as its bytes make
+-- where an accepted field stands: it begins at its place, and its numbers are no greater than the bytes
 pub record Goes (s : List ℕ) (at : ℕ) (f : Field) : Type 0 where
   pub code : f .code ≤ 32
   pub place : f .place ≡ at
   pub before : f .place ≤ f .first
   pub marked : f .marked ≤ f .first
   pub end : f .first + f .size ≤ length s
-  pub sized : f .size ≡ f .values * widthOf (f .code)
+  pub valued : f .values ≤ f .size
 
 pub field-goes : (s : List ℕ) (at : ℕ) (f : Field) → field s at ≡ fine f → Goes s at f
 unfolding field outline
@@ -185,15 +186,25 @@ field-goes s at f q =
     let j = bind-fine (booleans s (booleansOf (d .0 .code) (d .0 .size)) (d .0 .first)) _ (d .2) in
     let g = head-goes s at h (o .1) .0 in
     let k = marks-go s (h .marked) (h .next) (m .0) (m .1) in
+    let code = head-code s at h (o .1) in
     subst (Goes s at) (fine-eq (v .1) ∙ fine-eq (j .2))
-    (record { code = head-code s at h (o .1); place = refl; before = omega arith; marked = omega arith; end = v .0; sized = refl })
+    (record {
+      code = code;
+      place = refl;
+      before = omega arith;
+      marked = omega arith;
+      end = v .0;
+      valued = le-mul-of-pos-right (h .values) (width-positive (h .code) code);
+    })
 
--- an accepted field's numbers fit 16 bits, in a message within the limit
-pub field-small : (s : List ℕ) (base at : ℕ) (f : Field) → base + length s ≤ 32768 → field s at ≡ fine f → Small base f
+-- an accepted field's numbers fit 32 bits, in a message within the limit
+pub field-small : (s : List ℕ) (base at : ℕ) (f : Field) → base + length s ≤ limit → field s at ≡ fine f → Small base f
+unfolding limit
 field-small s base at f h q =
     let g = field-goes s at f q in
     let code = g .code in
     let place = g .before in
     let marked = g .marked in
     let end = g .end in
-    record { code = omega arith; place = omega arith; first = omega arith; size = omega arith; marked = omega arith }
+    let valued = g .valued in
+    record { code = omega arith; place = omega arith; first = omega arith; size = omega arith; marked = omega arith; values = omega arith }

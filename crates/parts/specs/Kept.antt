@@ -1,4 +1,4 @@
--- The rows that a part's reader keeps, five numbers for each field, so that no field has to be walked twice.
+-- The rows that a part's reader keeps, one for each field, so that no field has to be walked twice.
 use Prim.Native.Nat.{ℕ, zero, suc, _+_, _-_, _*_, _/_, _<_}
 use mathlib.Core.Bool.{cond}
 use mathlib.Core.List.{List, [], _∷_, map}
@@ -29,7 +29,7 @@ unfoldable pub keptAll : ℕ → ℕ → ℕ → List Field → List ℕ → Lis
 keptAll many k i [] kept = kept
 keptAll many k i (f ∷ fs) kept = keptAll many k (i + 1) fs (keptOne many k i f kept)
 
--- How many rows there are in so many numbers; none for a message that is past the limit, whose places might not fit 16 bits.
+-- How many rows there are in so many numbers; none for a message that is past the limit, whose places might not fit 32 bits.
 unfoldable pub rowsIn : ℕ → ℕ → ℕ
 rowsIn bytes numbers = cond (leb bytes limit) (numbers / rowSize) 0
 
@@ -37,10 +37,11 @@ rowsIn bytes numbers = cond (leb bytes limit) (numbers / rowSize) 0
 unfoldable pub keptPart : List ℕ → ℕ → ℕ → ℕ → List ℕ → List ℕ
 keptPart s base n k kept = keptAll (rowsIn (base + length s) (length kept)) k 0 (map (moved base) (front s n 0)) kept
 
--- A field's numbers fit 16 bits.
+-- A field's numbers fit 32 bits.
 pub record Small (base : ℕ) (f : Field) : Type 0 where
-  pub code : f .code < 65536
-  pub place : base + f .place < 65536
-  pub first : base + f .first < 65536
-  pub size : f .size < 65536
-  pub marked : f .marked < 65536
+  pub code : f .code < 4294967296
+  pub place : base + f .place < 4294967296
+  pub first : base + f .first < 4294967296
+  pub size : f .size < 4294967296
+  pub marked : f .marked < 4294967296
+  pub values : f .values < 4294967296

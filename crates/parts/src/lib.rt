@@ -4,7 +4,7 @@ ghost use Prim.Native.Nat.{_+_, _*_, _<_, _≤_};
 ghost use lib.ListN.{length};
 ghost use lib.Seq.{sets};
 ghost use Rattle.sim0mq.specs.Payload.{moved};
-ghost use Rattle.sim0mq.specs.Table.{row};
+ghost use Rattle.sim0mq.specs.Table.{row, rowSize};
 ghost use Rattle.sim0mq.specs.Views.{judged};
 ghost use Rattle.numbers.specs.Numbers.{Below};
 ghost use Rattle.fields.specs.Items.{seen};
@@ -16,23 +16,23 @@ use heads::Headed;
 use heads::head;
 use marks::mark_by;
 use sim0mq::Judged;
+use sim0mq::LIMIT;
+use sim0mq::ROW;
 use sim0mq::Refusal;
 use tables::lasts;
 use values::values;
 
-// The most bytes that a message has.
-pub const LIMIT: usize = 32768;
-
-// Stores the five numbers of a field of a part that begins at place `base`, from place i on.
-fn store(kept: &mut [u16], i: usize, base: usize, f: Field)
-    requires { ⌜ (i + 5 ≤ length (now kept)) × Small base (seen f) ⌝ }
+// Stores the six numbers of a field of a part that begins at place `base`, from place i on.
+fn store(kept: &mut [u32], i: usize, base: usize, f: Field)
+    requires { ⌜ (i + 6 ≤ length (now kept)) × Small base (seen f) ⌝ }
     ensures { λ _. ⌜ now (kept .exit) ≡ sets (now (kept .entry)) i (row (moved base (seen f))) ⌝ }
 {
-    kept[i] = f.code as u16;
-    kept[i + 1] = (base + f.place) as u16;
-    kept[i + 2] = (base + f.first) as u16;
-    kept[i + 3] = f.size as u16;
-    kept[i + 4] = f.marked as u16;
+    kept[i] = f.code as u32;
+    kept[i + 1] = (base + f.place) as u32;
+    kept[i + 2] = (base + f.first) as u32;
+    kept[i + 3] = f.size as u32;
+    kept[i + 4] = f.marked as u32;
+    kept[i + 5] = f.values as u32;
 }
 
 // What is known of the field at `at` that has this head, with so many value bytes from `first` on.
@@ -50,8 +50,8 @@ fn found(h: Asked, at: usize, first: usize, size: usize) -> Field
 }
 
 // Keeps field i of a part that begins at place `base`, if it is not before field k and there is a row for it.
-fn keep(kept: &mut [u16], many: usize, k: usize, i: usize, base: usize, f: Field)
-    requires { ⌜ (5 * many ≤ length (now kept)) × (0 < many → Small base (seen f)) ⌝ }
+fn keep(kept: &mut [u32], many: usize, k: usize, i: usize, base: usize, f: Field)
+    requires { ⌜ (rowSize * many ≤ length (now kept)) × (0 < many → Small base (seen f)) ⌝ }
     ensures { λ _. ⌜ now (kept .exit) ≡ keptOne many k i (moved base (seen f)) (now (kept .entry)) ⌝ }
 {
     if i < k {
@@ -59,17 +59,17 @@ fn keep(kept: &mut [u16], many: usize, k: usize, i: usize, base: usize, f: Field
     }
     let j = i - k;
     if j < many {
-        store(kept, 5 * j, base, f);
+        store(kept, ROW * j, base, f);
     }
 }
 
-// How many rows of five numbers are kept of a part of so many bytes that begins at place `base`, where there is room for so many numbers.
+// How many rows are kept of a part of so many bytes that begins at place `base`, where there is room for so many numbers.
 fn rows(base: usize, bytes: usize, numbers: usize) -> usize
     ensures { λ r. ⌜ r ≡ rowsIn (base + bytes) numbers ⌝ }
 {
     if base <= LIMIT {
         if bytes <= LIMIT - base {
-            return numbers / 5;
+            return numbers / ROW;
         }
     }
     0
@@ -77,7 +77,7 @@ fn rows(base: usize, bytes: usize, numbers: usize) -> usize
 
 // The part s of n fields, which begins at place `base` of its message: its steps, one for each field and each mark, and no more than its bytes; or the refusal,
 // with its place in the part. The rows of the fields from field k on are kept, as far as there is room, up to the first fault.
-pub fn part(s: &[u8], base: usize, n: usize, k: usize, kept: &mut [u16]) -> Judged
+pub fn part(s: &[u8], base: usize, n: usize, k: usize, kept: &mut [u32]) -> Judged
     ensures answer { λ r. ⌜ (judged r ≡ partSteps (now (s .entry)) n) × Below (length (now (s .entry)) + 1) r ⌝ }
     ensures kept { λ _. ⌜ now (kept .exit) ≡ keptPart (now (s .entry)) base n k (now (kept .entry)) ⌝ }
 {

@@ -11,7 +11,8 @@ use lib.Dec.{leb, lit<}
 use Rattle.sim0mq.specs.Answer.{fine, _>>=_, _>>_, guard}
 use Rattle.sim0mq.specs.Field.{Field, field, after}
 use Rattle.sim0mq.specs.Payload.{payloadFrom, payload, moved}
-use Rattle.sim0mq.specs.Table.{row, rows, stored}
+use Rattle.sim0mq.specs.Table.{row, rowSize, rows, stored}
+use Rattle.sim0mq.specs.Message.{limit}
 use Rattle.sim0mq.proofs.Answers.{bind-fine, guarded, fine-eq}
 use borrow.Author.Tests.{leb-true}
 use Rattle.parts.specs.Kept.{front, keptOne, keptAll, rowsIn}
@@ -111,30 +112,30 @@ module _ (s : List ℕ) where
       none e = omega arith
 
 -- fields from field i on, each of which has a row
-kept-all : (many i : ℕ) (fs : List Field) (kept : List ℕ) → i + length fs ≤ many → 5 * many ≤ length kept
-    → keptAll many 0 i fs kept ≡ storedFrom kept (5 * i) (rows fs)
-unfolding keptAll rows row
-kept-all many i [] kept h room = sym (stored-done kept (5 * i))
+kept-all : (many i : ℕ) (fs : List Field) (kept : List ℕ) → i + length fs ≤ many → rowSize * many ≤ length kept
+    → keptAll many 0 i fs kept ≡ storedFrom kept (rowSize * i) (rows fs)
+unfolding keptAll rows row rowSize
+kept-all many i [] kept h room = sym (stored-done kept (rowSize * i))
 kept-all many i (f ∷ fs) kept h room =
     let next = keptOne many 0 i f kept in
-    let at : 5 * (i - 0) ≡ 5 * i = omega arith in
-    let here : next ≡ sets kept (5 * i) (row f) = sym (kept-here many 0 i f kept zero-le (omega arith)) ∙ ap (λ (p : ℕ). sets kept p (row f)) at in
+    let at : rowSize * (i - 0) ≡ rowSize * i = omega arith in
+    let here : next ≡ sets kept (rowSize * i) (row f) = sym (kept-here many 0 i f kept zero-le (omega arith)) ∙ ap (λ (p : ℕ). sets kept p (row f)) at in
     let long : length next ≡ length kept = kept-long many 0 i f kept in
-    let turn : storedFrom kept (5 * i) (row f ++ rows fs) ≡ storedFrom next (5 * i + 5) (rows fs)
-    = stored-turn kept next (row f) (rows fs) (5 * i) (omega arith) here in
-    let place : 5 * (i + 1) ≡ 5 * i + 5 = omega arith in
+    let turn : storedFrom kept (rowSize * i) (row f ++ rows fs) ≡ storedFrom next (rowSize * i + rowSize) (rows fs)
+    = stored-turn kept next (row f) (rows fs) (rowSize * i) (omega arith) here in
+    let place : rowSize * (i + 1) ≡ rowSize * i + rowSize = omega arith in
     kept-all many (i + 1) fs next (omega arith) (omega arith) ∙ ap (λ (k : ℕ). storedFrom next k (rows fs)) place ∙ sym turn
 
 -- the rows of an accepted payload, where there is room for all of them
-pub kept-rows : (s : List ℕ) (next n : ℕ) (fs : List Field) (kept : List ℕ) → payload (drop next s) n ≡ fine fs → length s ≤ 32768
-    → 5 * n ≤ length kept → keptOf s next n 0 kept ≡ stored kept (rows (map (moved next) fs))
-unfolding keptOf
+pub kept-rows : (s : List ℕ) (next n : ℕ) (fs : List Field) (kept : List ℕ) → payload (drop next s) n ≡ fine fs → length s ≤ limit
+    → rowSize * n ≤ length kept → keptOf s next n 0 kept ≡ stored kept (rows (map (moved next) fs))
+unfolding keptOf rowSize
 kept-rows s next n fs kept q short room =
-    let many : n ≤ length kept / 5 = le-div-iff-mul-le (lit< tt) .1 (omega arith) in
+    let many : n ≤ length kept / rowSize = le-div-iff-mul-le (lit< tt) .1 (omega arith) in
     let rowed = rows-within (length s) (length kept) short in
     let count : length (map (moved next) fs) ≡ n = length-map fs (moved next) ∙ payload-many (drop next s) n fs q in
     let enough : 0 + length (map (moved next) fs) ≤ rowsIn (length s) (length kept) = omega arith in
-    let within : 5 * rowsIn (length s) (length kept) ≤ length kept = omega arith in
+    let within : rowSize * rowsIn (length s) (length kept) ≤ length kept = omega arith in
     ap (λ (l : List Field). keptAll (rowsIn (length s) (length kept)) 0 0 (map (moved next) l) kept) (front-accepted (drop next s) n fs q)
     ∙ kept-all (rowsIn (length s) (length kept)) 0 (map (moved next) fs) kept enough within
     ∙ sym (stored-start kept (rows (map (moved next) fs)))

@@ -44,7 +44,7 @@ steps-moved b [] = refl
 steps-moved b (f ∷ fs) = ap (λ (k : ℕ). 1 + f .marked + k) (steps-moved b fs)
 
 -- no more steps than bytes, of which there are no more than the limit
-pub below-most : (n : ℕ) (j : Judged) → n ≤ 32768 → Below (n + 1) j → Below 32769 j
+pub below-most : (n : ℕ) (j : Judged) → n ≤ limit → Below (n + 1) j → Below (limit + 1) j
 below-most n (Judged·Accepted k) h b = omega arith
 below-most n (Judged·Refused r) h b = tt
 
@@ -65,8 +65,8 @@ module _ (lent : M.Lent) (s : List ℕ) where
 
     -- with the numbers that the code has of it
     module _ (n next : ℕ) (p : h .fields ≡ n) (q : h .next ≡ next) where
-      pub open-fillable : (r : ℕ) → lent ≡ M.table r → Fillable s next n 1280 r
-      unfolding limit enough rowSize
+      pub open-fillable : (r : ℕ) → lent ≡ M.table r → Fillable s next n (256 * rowSize) r
+      unfolding enough rowSize
       open-fillable r e =
           let w = open-within lent s h a n next p q in
           let most = w .2 in
@@ -94,9 +94,9 @@ module _ (lent : M.Lent) (s : List ℕ) where
           go (fine fs) e = simp (open-reading lent s h a n next p q, e, q)
           go (refused k w) e = simp (open-reading lent s h a n next p q, e)
 
--- five numbers for each field
-rows-long : (fs : List Field) → length (rows fs) ≡ 5 * length fs
-unfolding rows row
+-- as many numbers as the fields have rows
+rows-long : (fs : List Field) → length (rows fs) ≡ rowSize * length fs
+unfolding rows row rowSize
 rows-long [] = refl
 rows-long (f ∷ fs) = omega (arith, length-append (row f) (rows fs), rows-long fs)
 
@@ -111,14 +111,14 @@ module _ (s : List ℕ) (next n kept table : ℕ) (h : Fillable s next n kept ta
       go (refused r v) e = refl
 
   pub fill-accepted : (k : ℕ) (l m t₁ : List ℕ) → payloadSteps s next n ≡ fine k → kept ≡ length l → m ≡ keptOf s next n 0 l
-      → t₁ ≡ stored t (take (5 * n) m) → t₁ ≡ filled s next n t
-  unfolding filled rowsAfter rowSize limit stored
+      → t₁ ≡ stored t (take (rowSize * n) m) → t₁ ≡ filled s next n t
+  unfolding filled rowsAfter stored
   fill-accepted k l m t₁ e long d c =
       let a = at-taken s next n (h .within) k e in
       let fs = map (moved next) (a .0) in
       let keeps = h .keeps in
       let kept-is : m ≡ rows fs ++ drop (length (rows fs)) l = d ∙ kept-rows s next n (a .0) l (a .1) (h .short) (omega arith) in
       let count : length fs ≡ n = length-map (a .0) (moved next) ∙ payload-many (drop next s) n (a .0) (a .1) in
-      let size : length (rows fs) ≡ 5 * n = rows-long fs ∙ ap (λ (j : ℕ). 5 * j) count in
-      let front : take (5 * n) m ≡ rows fs = ap (take (5 * n)) kept-is ∙ take-at (rows fs) (drop (length (rows fs)) l) (5 * n) size in
+      let size : length (rows fs) ≡ rowSize * n = rows-long fs ∙ ap (λ (j : ℕ). rowSize * j) count in
+      let front : take (rowSize * n) m ≡ rows fs = ap (take (rowSize * n)) kept-is ∙ take-at (rows fs) (drop (length (rows fs)) l) (rowSize * n) size in
       c ∙ ap (λ (r : List ℕ). r ++ drop (length r) t) front ∙ sym (ap (rowsAfter t next) (a .1))

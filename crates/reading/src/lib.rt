@@ -1,21 +1,21 @@
 // Reading: the header, then the part after it; with a table, or with none.
 ghost use mathlib.Core.Path.{_≡_};
-ghost use Prim.Native.Nat.{_+_, _≤_};
+ghost use Prim.Native.Nat.{_+_, _*_, _≤_};
 ghost use lib.ListN.{length, take};
-ghost use Rattle.sim0mq.specs.Table.{stored};
+ghost use Rattle.sim0mq.specs.Table.{rowSize, stored};
 ghost use Rattle.sim0mq.specs.Views.{judged};
 ghost use Rattle.numbers.specs.Numbers.{Below};
 ghost use Rattle.payload.specs.Parts.{payloadSteps};
-ghost use Rattle.sim0mq.specs.Message.{noTable, table as tableOf, reading as readingOf, tableAfter};
+ghost use Rattle.sim0mq.specs.Message.{limit, noTable, table as tableOf, reading as readingOf, tableAfter};
 ghost use Rattle.reading.specs.Answers.{answered, refusedAt, answerOf};
 ghost use Rattle.reading.specs.Rows.{Fillable, filled};
 use front::Lent;
 use front::opened;
 use header::Frame;
 use header::Said;
-use numbers::wide16;
 use payload::payload;
 use sim0mq::Judged;
+use sim0mq::ROW;
 use sim0mq::Refusal;
 
 // What reading finds in an accepted message: its length, its field count and its steps.
@@ -47,19 +47,19 @@ fn refuse(number: u32, place: usize) -> Answer
 }
 
 // The first n numbers of `kept` at the front of the table.
-fn copied(kept: &[u16], n: usize, table: &mut [u32])
+fn copied(kept: &[u32], n: usize, table: &mut [u32])
     requires { ⌜ (n ≤ length (now kept)) × (n ≤ length (now table)) ⌝ }
     ensures { λ _. ⌜ now (table .exit) ≡ stored (now (table .entry)) (take n (now (kept .entry))) ⌝ }
 {
     let mut i: usize = 0;
     while i < n {
-        table[i] = wide16(kept[i]) as u32;
+        table[i] = kept[i];
         i += 1;
     }
 }
 
 // Judges the payload of n fields that begins at `next`, and stores its rows in the table once it is accepted; `kept` holds them until then.
-fn filled_by(message: &[u8], next: usize, n: usize, kept: &mut [u16], table: &mut [u32]) -> Judged
+fn filled_by(message: &[u8], next: usize, n: usize, kept: &mut [u32], table: &mut [u32]) -> Judged
     requires { ⌜ Fillable (now message) next n (length (now kept)) (length (now table)) ⌝ }
     ensures answer { λ r. ⌜ (judged r ≡ payloadSteps (now (message .entry)) next n) × Below (length (now (message .entry)) + 1) r ⌝ }
     ensures stored { λ _. ⌜ now (table .exit) ≡ filled (now (message .entry)) next n (now (table .entry)) ⌝ }
@@ -67,7 +67,7 @@ fn filled_by(message: &[u8], next: usize, n: usize, kept: &mut [u16], table: &mu
     match payload(message, next, n, 0, kept) {
         Judged::Refused(r) => Judged::Refused(r),
         Judged::Accepted(steps) => {
-            copied(kept, 5 * n, table);
+            copied(kept, ROW * n, table);
             Judged::Accepted(steps)
         }
     }
@@ -75,21 +75,21 @@ fn filled_by(message: &[u8], next: usize, n: usize, kept: &mut [u16], table: &mu
 
 // Judges the payload of n fields that begins at `next`, and stores its rows in the table once it is accepted.
 fn fill(message: &[u8], next: usize, n: usize, table: &mut [u32]) -> Judged
-    requires { ⌜ Fillable (now message) next n 1280 (length (now table)) ⌝ }
+    requires { ⌜ Fillable (now message) next n (256 * rowSize) (length (now table)) ⌝ }
     ensures answer { λ r. ⌜ (judged r ≡ payloadSteps (now (message .entry)) next n) × Below (length (now (message .entry)) + 1) r ⌝ }
     ensures stored { λ _. ⌜ now (table .exit) ≡ filled (now (message .entry)) next n (now (table .entry)) ⌝ }
 {
     if n <= 8 {
-        let mut few = [0u16; 40];
+        let mut few = [0u32; 8 * ROW];
         return filled_by(message, next, n, &mut few, table);
     }
-    let mut all = [0u16; 1280];
+    let mut all = [0u32; 256 * ROW];
     filled_by(message, next, n, &mut all, table)
 }
 
 // The answer of a message of so many bytes that has these frames and so many fields, where this is what its payload's reader says.
 fn told_by(bytes: usize, frames: [Frame; 8], fields: usize, said: Judged) -> Answer
-    requires { ⌜ Below 32769 said ⌝ }
+    requires { ⌜ Below (limit + 1) said ⌝ }
     ensures { λ r. ⌜ r ≡ answerOf bytes frames fields (judged said) ⌝ }
 {
     match said {
@@ -132,7 +132,7 @@ pub fn judge(message: &[u8]) -> Answer
     match said {
         Said::Refused(r) => refuse(r.number, r.place),
         Said::Accepted(e) => {
-            let mut none = [0u16; 0];
+            let mut none = [0u32; 0];
             let judging = payload(message, e.next, e.fields, 0, &mut none);
             told_by(message.len(), frames, e.fields, judging)
         }

@@ -7,7 +7,7 @@ use lines::part;
 use lines::starts;
 
 // How many numbers a table has at most, and has where a case does not say.
-const NUMBERS: usize = 1280;
+const NUMBERS: usize = 1536;
 
 // What has been run so far, and the case that is being read.
 pub struct Run {

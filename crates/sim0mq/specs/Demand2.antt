@@ -11,7 +11,7 @@ use Rattle.sim0mq.specs.Field.{Field, after}
 use Rattle.sim0mq.specs.Table.{rows}
 use Rattle.sim0mq.specs.Header.{Frame, Header, header}
 use Rattle.sim0mq.specs.Message.{limit, Lent, enough, Reading, stepsOf, reading}
-use Rattle.sim0mq.specs.Allowed.{FieldParts, joined, fieldBytes, headerBytes, headerFrames, MessageParts, messageBytes, IsMessage, Allowed}
+use Rattle.sim0mq.specs.Allowed.{FieldParts, joined, fieldBytes, valuesAsked, headerBytes, headerFrames, MessageParts, messageBytes, IsMessage, Allowed}
 
 -- What is lent has room for the fields that s declares, if s has a good header.
 abbrev pub Room : Lent → List ℕ → Type 0
@@ -24,7 +24,7 @@ Accepted lent s = (m : Reading) × (reading lent s ≡ fine m)
 abbrev pub Accepts-what-is-allowed : Type 0
 Accepts-what-is-allowed = (lent : Lent) (s : List ℕ) → Room lent s → Accepted lent s ↔ Allowed limit s
 
--- The table numbers of fields that begin at `at`, read off their parts: code, place, first value byte, value bytes, marks.
+-- The table numbers of fields that begin at `at`, read off their parts: code, place, first value byte, value bytes, marks, and the values that its counts ask for.
 -- Each field begins where the one before ends.
 unfoldable pub cutRows : ℕ → List FieldParts → List ℕ
 cutRows at [] = []
@@ -34,6 +34,7 @@ cutRows at (f ∷ fs) =
     ∷ (at + 1 + length (joined (f .counts)) + length (joined (f .marks)))
     ∷ length (f .values)
     ∷ length (f .marks)
+    ∷ valuesAsked (f .counts)
     ∷ cutRows (at + length (fieldBytes f)) fs
 
 -- The frames that begin at `at`, read off their parts.

@@ -51,7 +51,7 @@ blankOutcome (fine c) = copy c
 blankOutcome (refused k p) = refusal k p
 
 unfoldable pub outcome : Deed → Outcome
-outcome (read s) = readOutcome (reading (table 1280) s)
+outcome (read s) = readOutcome (reading (table 1536) s)
 outcome (blank s) = blankOutcome (blanking 1280 s)
 
 pub record Example : Type 0 where
@@ -66,7 +66,7 @@ unfoldable pub starred : List Example
 unfolding front sample
 starred =
     (read [] gives refusal 1 0)
-    ∷ (read sample gives accepted 9 (5 ∷ 68 ∷ 69 ∷ 8 ∷ 0 ∷ []))
+    ∷ (read sample gives accepted 9 (5 ∷ 68 ∷ 69 ∷ 8 ∷ 0 ∷ 1 ∷ []))
     ∷ (read (take 76 sample) gives refusal 1 76)
     ∷ (read (sample ++ (0 ∷ [])) gives refusal 13 77)
     ∷ (read (set sample 9 50) gives refusal 3 8)
@@ -75,9 +75,9 @@ starred =
     ∷ (read (set sample 66 1) gives refusal 7 66)
     ∷ (read (set sample 66 0x80) gives refusal 5 66)
     ∷ (read (set sample 68 33) gives refusal 9 68)
-    ∷ (read (front ++ (24 ∷ 0 ∷ 0 ∷ 0 ∷ 0 ∷ 127 ∷ 255 ∷ 255 ∷ 255 ∷ [])) gives accepted 9 (24 ∷ 68 ∷ 77 ∷ 0 ∷ 0 ∷ []))
+    ∷ (read (front ++ (24 ∷ 0 ∷ 0 ∷ 0 ∷ 0 ∷ 127 ∷ 255 ∷ 255 ∷ 255 ∷ [])) gives accepted 9 (24 ∷ 68 ∷ 77 ∷ 0 ∷ 0 ∷ 0 ∷ []))
     ∷ (read (front ++ (23 ∷ 127 ∷ 255 ∷ 255 ∷ 255 ∷ 127 ∷ 255 ∷ 255 ∷ 255 ∷ [])) gives refusal 1 77)
-    ∷ (read (front ++ (26 ∷ 101 ∷ 0x03 ∷ 0xD2 ∷ 21 ∷ 0x40 ∷ 0xA3 ∷ 0x88 ∷ 0 ∷ 0 ∷ 0 ∷ 0 ∷ 0 ∷ [])) gives accepted 10 (26 ∷ 68 ∷ 73 ∷ 8 ∷ 1 ∷ []))
+    ∷ (read (front ++ (26 ∷ 101 ∷ 0x03 ∷ 0xD2 ∷ 21 ∷ 0x40 ∷ 0xA3 ∷ 0x88 ∷ 0 ∷ 0 ∷ 0 ∷ 0 ∷ 0 ∷ [])) gives accepted 10 (26 ∷ 68 ∷ 73 ∷ 8 ∷ 1 ∷ 1 ∷ []))
     ∷ (blank sample gives copy (front ++ (5 ∷ 0 ∷ 0 ∷ 0 ∷ 0 ∷ 0 ∷ 0 ∷ 0 ∷ 0 ∷ [])))
     ∷ []
 

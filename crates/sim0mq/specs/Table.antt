@@ -1,15 +1,15 @@
--- The field table: five numbers for each field (01, "What reading returns").
+-- The field table: six numbers for each field (01, "What reading returns").
 use Prim.Native.Nat.{ℕ, _+_}
 use mathlib.Core.List.{List, [], _∷_, _++_}
 use lib.ListN.{length, take, drop}
 use Rattle.sim0mq.specs.Field.{Field}
 
--- A field's numbers: code, place of the code byte, place of the first value byte, number of value bytes, number of marks.
+-- A field's numbers: code, place of the code byte, place of the first value byte, number of value bytes, number of marks, number of values.
 unfoldable pub row : Field → List ℕ
-row f = f .code ∷ f .place ∷ f .first ∷ f .size ∷ f .marked ∷ []
+row f = f .code ∷ f .place ∷ f .first ∷ f .size ∷ f .marked ∷ f .values ∷ []
 
 unfoldable pub rowSize : ℕ
-rowSize = 5
+rowSize = 6
 
 unfoldable pub rows : List Field → List ℕ
 rows [] = []

@@ -3,6 +3,12 @@ ghost use mathlib.Core.Path.{_≡_};
 ghost use Rattle.sim0mq.specs.Answer.{refused};
 ghost use Rattle.sim0mq.specs.Views.{judged};
 
+// The most bytes that a message has.
+pub const LIMIT: usize = 32768;
+
+// How many numbers the field table has for each field.
+pub const ROW: usize = 6;
+
 // A refusal: the place of the fault, and its number in document 01's list. The place stands first, where an accepted answer has its number.
 pub struct Refusal {
     pub place: usize,

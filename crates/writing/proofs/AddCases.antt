@@ -34,36 +34,36 @@ module _ (w : Writer) (room : ℕ) where
     unfolding takes
     takes-closed e = sym (simp (lt-ltb (w .added) (w .declared) some, e))
 
-    pub takes-long : w .closed ≡ false → 32768 < w .written → false ≡ takes w room
-    unfolding takes limit
-    takes-long e h = sym (simp (lt-ltb (w .added) (w .declared) some, e, lt-leb (w .written) 32768 h))
+    pub takes-long : w .closed ≡ false → limit < w .written → false ≡ takes w room
+    unfolding takes
+    takes-long e h = sym (simp (lt-ltb (w .added) (w .declared) some, e, lt-leb (w .written) limit h))
 
-    pub takes-room : w .closed ≡ false → w .written ≤ 32768 → leb (w .written) room ≡ takes w room
-    unfolding takes limit
-    takes-room e h = sym (simp (lt-ltb (w .added) (w .declared) some, e, le-leb (w .written) 32768 h))
+    pub takes-room : w .closed ≡ false → w .written ≤ limit → leb (w .written) room ≡ takes w room
+    unfolding takes
+    takes-room e h = sym (simp (lt-ltb (w .added) (w .declared) some, e, le-leb (w .written) limit h))
 
   -- what such a state is
-  pub takes-within : takes w room ≡ true → (w .added < w .declared) × (w .written ≤ 32768) × (w .written ≤ room)
-  unfolding takes limit
+  pub takes-within : takes w room ≡ true → (w .added < w .declared) × (w .written ≤ limit) × (w .written ≤ room)
+  unfolding takes
   takes-within e =
       let a = and-true (ltb (w .added) (w .declared)) _ e in
       let b = and-true (not (w .closed)) _ (a .1) in
-      let d = and-true (leb (w .written) 32768) (leb (w .written) room) (b .1) in
+      let d = and-true (leb (w .written) limit) (leb (w .written) room) (b .1) in
       (ltb-true _ _ (a .0), leb-true _ _ (d .0), leb-true _ _ (d .1))
 
 -- a text after what is written: the message is too long, there is no room, it fits
-module _ (written room : ℕ) (text : List ℕ) (short : written ≤ 32768) where
-  pub fitting-long : 32768 - written < length text → fitting written room text ≡ refused 8 0
-  unfolding fitting limit
-  fitting-long h = simp (lt-leb (written + length text) 32768 (omega arith))
+module _ (written room : ℕ) (text : List ℕ) (short : written ≤ limit) where
+  pub fitting-long : limit - written < length text → fitting written room text ≡ refused 8 0
+  unfolding fitting
+  fitting-long h = simp (lt-leb (written + length text) limit (omega arith))
 
-  pub fitting-full : length text ≤ 32768 - written → room - written < length text → fitting written room text ≡ refused 14 0
-  unfolding fitting limit
-  fitting-full h k = simp (le-leb (written + length text) 32768 (omega arith), lt-leb (written + length text) room (omega arith))
+  pub fitting-full : length text ≤ limit - written → room - written < length text → fitting written room text ≡ refused 14 0
+  unfolding fitting
+  fitting-full h k = simp (le-leb (written + length text) limit (omega arith), lt-leb (written + length text) room (omega arith))
 
-  pub fitting-fine : length text ≤ 32768 - written → length text ≤ room - written → written ≤ room → fitting written room text ≡ fine text
-  unfolding fitting limit
-  fitting-fine h k l = simp (le-leb (written + length text) 32768 (omega arith), le-leb (written + length text) room (omega arith))
+  pub fitting-fine : length text ≤ limit - written → length text ≤ room - written → written ≤ room → fitting written room text ≡ fine text
+  unfolding fitting
+  fitting-fine h k l = simp (le-leb (written + length text) limit (omega arith), le-leb (written + length text) room (omega arith))
 
 -- adding: the state does not take a field, the field is refused, the field is to fit
 module _ (w : Writer) (room : ℕ) (g : Given) where
@@ -122,14 +122,14 @@ module _ (w : Writer) where
   unfolding closing
   closing-closed e = simp e
 
-  pub closing-long : w .closed ≡ false → 32768 < w .written → closing w ≡ refused 15 0
-  unfolding closing limit
-  closing-long e h = simp (e, lt-leb (w .written) 32768 h)
+  pub closing-long : w .closed ≡ false → limit < w .written → closing w ≡ refused 15 0
+  unfolding closing
+  closing-long e h = simp (e, lt-leb (w .written) limit h)
 
-  pub closing-short : w .closed ≡ false → w .written ≤ 32768 → (w .added ≡ w .declared → ⊥) → closing w ≡ refused 15 0
-  unfolding closing limit
-  closing-short e h q = simp (e, le-leb (w .written) 32768 h, ne-eqb (w .added) (w .declared) q)
+  pub closing-short : w .closed ≡ false → w .written ≤ limit → (w .added ≡ w .declared → ⊥) → closing w ≡ refused 15 0
+  unfolding closing
+  closing-short e h q = simp (e, le-leb (w .written) limit h, ne-eqb (w .added) (w .declared) q)
 
-  pub closing-fine : w .closed ≡ false → w .written ≤ 32768 → w .added ≡ w .declared → closing w ≡ fine (w .written)
-  unfolding closing limit
-  closing-fine e h q = simp (e, le-leb (w .written) 32768 h, eq-eqb (w .added) (w .declared) q)
+  pub closing-fine : w .closed ≡ false → w .written ≤ limit → w .added ≡ w .declared → closing w ≡ fine (w .written)
+  unfolding closing
+  closing-fine e h q = simp (e, le-leb (w .written) limit h, eq-eqb (w .added) (w .declared) q)

@@ -11,6 +11,7 @@ use kinds::Scalar;
 use opening::write_header;
 use payload::payload;
 use sim0mq::Judged;
+use sim0mq::LIMIT;
 use sim0mq::Refusal;
 
 // The type code of the declared count: not stated, which is 2, or stated.
@@ -63,7 +64,7 @@ fn takes(w: Writer, room: usize) -> bool
     if w.closed {
         return false;
     }
-    if 32768 < w.written {
+    if LIMIT < w.written {
         return false;
     }
     w.written <= room
@@ -76,7 +77,7 @@ fn append(w: Writer, text: &[u8], out: &mut [u8]) -> Wrote
     ensures written { λ _. ⌜ now (out .exit) ≡ bufferAfter (now (out .entry)) (w .written) (fitting (w .written) (length (now (out .entry))) (now (text .entry))) ⌝ }
 {
     let at = w.written;
-    if 32768 - at < text.len() {
+    if LIMIT - at < text.len() {
         return refused(8, 0, w);
     }
     if out.len() - at < text.len() {
@@ -139,7 +140,7 @@ impl Writer {
         if !takes(self, out.len()) {
             return refused(15, 0, self);
         }
-        let mut none = [0u16; 0];
+        let mut none = [0u32; 0];
         match payload(field, 0, 1, 0, &mut none) {
             Judged::Refused(r) => refused(r.number, r.place, self),
             Judged::Accepted(_) => append(self, field, out),
@@ -170,7 +171,7 @@ impl Writer {
         if self.closed {
             return refused(15, 0, self);
         }
-        if 32768 < self.written {
+        if LIMIT < self.written {
             return refused(15, 0, self);
         }
         if self.added != self.declared {

@@ -12,8 +12,9 @@ fn refused(message: &[u8]) -> (u8, usize) {
 }
 
 /// The row of a field.
-fn row(field: Field) -> [usize; 5] {
-    [field.code().into(), field.place(), field.first(), field.len(), field.marks()]
+fn row(field: Field) -> [usize; 6] {
+    let (code, values) = (field.code().into(), field.values());
+    [code, field.place(), field.first(), field.len(), field.marks(), values]
 }
 
 /// The largest count.
@@ -28,7 +29,7 @@ fn the_sample_is_accepted_with_its_table() {
     let places = [(0, 9), (10, 9), (24, 9), (33, 9), (43, 9), (54, 3), (63, 0), (65, 1)];
     assert_eq!(frames, places);
     let field = message.field(0).unwrap();
-    assert_eq!((field.k(), row(field)), (0, [5, 68, 69, 8, 0]));
+    assert_eq!((field.k(), row(field)), (0, [5, 68, 69, 8, 0, 1]));
     assert_eq!((field.bytes(), field.encoded()), (&S[69..], &S[68..]));
     assert!(message.field(1).is_none());
 }
@@ -100,7 +101,7 @@ fn a_matrix_of_no_rows_has_no_values() {
     let message = carrying(1, &[&[24, 0, 0, 0, 0], &LARGEST[..]].concat());
     let message = read(&message).unwrap();
     let field = message.field(0).unwrap();
-    assert_eq!(row(field), [24, 68, 77, 0, 0]);
+    assert_eq!(row(field), [24, 68, 77, 0, 0, 0]);
     assert!(field.is_empty());
     assert_eq!(field.bytes(), []);
 }
@@ -110,7 +111,7 @@ fn money_has_a_mark_of_four_bytes() {
     let message = carrying(1, b"\x1A\x65\x03\xD2\x15\x40\xA3\x88\0\0\0\0\0");
     let message = read(&message).unwrap();
     assert_eq!(message.steps(), 10);
-    assert_eq!(row(message.field(0).unwrap()), [26, 68, 73, 8, 1]);
+    assert_eq!(row(message.field(0).unwrap()), [26, 68, 73, 8, 1, 1]);
 }
 
 /// A message of this many fields, each a byte or a string of one character in turn.
@@ -130,8 +131,8 @@ fn every_field_has_its_row_whatever_their_number() {
         assert_eq!(message.fields().len(), usize::from(count));
         let mut place = 68;
         for (k, field) in message.fields().enumerate() {
-            let expected =
-                if k % 2 == 0 { [0, place, place + 1, 1, 0] } else { [9, place, place + 5, 1, 0] };
+            let (code, head) = if k % 2 == 0 { (0, 1) } else { (9, 5) };
+            let expected = [code, place, place + head, 1, 0, 1];
             assert_eq!((field.k(), row(field)), (k, expected));
             assert_eq!(field.bytes(), [k as u8]);
             place += field.encoded().len();
@@ -179,7 +180,7 @@ fn the_longest_message_is_read_and_a_longer_one_refused() {
     let count = (text.len() as u32).to_be_bytes();
     let mut bytes = carrying(1, &[&[9], &count[..], &text].concat());
     assert_eq!(bytes.len(), MOST_BYTES);
-    assert_eq!(row(read(&bytes).unwrap().field(0).unwrap()), [9, 68, 73, MOST_BYTES - 73, 0]);
+    assert_eq!(row(read(&bytes).unwrap().field(0).unwrap()), [9, 68, 73, MOST_BYTES - 73, 0, MOST_BYTES - 73]);
     bytes.push(0);
     assert_eq!(refused(&bytes), (8, 0));
 }

@@ -61,7 +61,7 @@ fn values_and_marks_show_their_kind_alone() {
 fn messages_show_how_they_are_built() {
     let message = read(S).unwrap();
     assert_eq!(format!("{message:?}"), "Message { length: 77, fields: 1, steps: 9, .. }");
-    let field = "Field { k: 0, code: 5, place: 68, first: 69, len: 8, marks: 0 }";
+    let field = "Field { k: 0, code: 5, place: 68, first: 69, len: 8, marks: 0, values: 1 }";
     assert_eq!(format!("{:?}", message.field(0).unwrap()), field);
     assert_eq!(format!("{:?}", message.fields()), format!("[{field}]"));
     assert_eq!(format!("{:?}", message.sender()), "Id { code: 9, place: 24, len: 4 }");

@@ -9,7 +9,7 @@ fn the_example_is_accepted() {
     assert_eq!((reading.length, reading.fields, reading.steps), (77, 1, 9));
     let frames = [(0, 9), (10, 9), (24, 9), (33, 9), (43, 9), (54, 3), (63, 0), (65, 1)];
     assert_eq!(reading.frames, frames);
-    assert_eq!(table_of(&S), [[5, 68, 69, 8, 0]]);
+    assert_eq!(table_of(&S), [[5, 68, 69, 8, 0, 1]]);
 }
 
 #[test]
@@ -74,10 +74,10 @@ fn number_and_status() {
 fn counts_of_fields() {
     refused(&changed(67, 0), 13, 68);
     refused(&with_fields(256, &S[68..]), 1, 77);
-    let mut table = [0; 1280];
+    let mut table = [0; 1536];
     let message = with_fields(256, &S[68..]);
     assert_eq!(read(&message, Some(&mut table)), Err(Refusal::new(1, 77)));
-    assert_eq!(read(&message, Some(&mut table[..1279])), Err(Refusal::new(14, 0)));
+    assert_eq!(read(&message, Some(&mut table[..1535])), Err(Refusal::new(14, 0)));
     refused(&with_fields(257, &S[68..]), 7, 66);
     refused(&changed(66, 0x80), 5, 66);
     refused(&changed(65, 3), 4, 65);
@@ -113,7 +113,7 @@ fn codes_of_fields() {
     let widths = [1, 2, 4, 8, 4, 8, 1, 1, 2];
     for (code, width) in widths.into_iter().enumerate() {
         let message = with_payload(&[&[code as u8], &vec![1; width][..]].concat());
-        assert_eq!(table_of(&message), [[code as u32, 68, 69, width as u32, 0]]);
+        assert_eq!(table_of(&message), [[code as u32, 68, 69, width as u32, 0, 1]]);
     }
 }
 
@@ -123,14 +123,14 @@ fn widths_of_arrays_and_matrices() {
     for (number, width) in arrays.into_iter().enumerate() {
         let code = 9 + number as u8;
         let message = with_payload(&[&[code, 0, 0, 0, 3][..], &vec![1; 3 * width]].concat());
-        assert_eq!(table_of(&message), [[code.into(), 68, 73, 3 * width as u32, 0]]);
+        assert_eq!(table_of(&message), [[code.into(), 68, 73, 3 * width as u32, 0, 3]]);
         refused(&message[..message.len() - 1], 1, message.len() as u64 - 1);
     }
     for (number, width) in arrays[2..].iter().enumerate() {
         let code = 18 + number as u8;
         let head = [code, 0, 0, 0, 3, 0, 0, 0, 2];
         let message = with_payload(&[&head[..], &vec![1; 6 * width]].concat());
-        assert_eq!(table_of(&message), [[code.into(), 68, 77, 6 * *width as u32, 0]]);
+        assert_eq!(table_of(&message), [[code.into(), 68, 77, 6 * *width as u32, 0, 6]]);
     }
 }
 
@@ -146,7 +146,7 @@ fn counts_in_turn() {
 #[test]
 fn sizes_do_not_wrap() {
     let empty = with_payload(&[&[24, 0, 0, 0, 0][..], &MOST].concat());
-    assert_eq!(table_of(&empty), [[24, 68, 77, 0, 0]]);
+    assert_eq!(table_of(&empty), [[24, 68, 77, 0, 0, 0]]);
     refused(&with_payload(&[&[23][..], &MOST, &MOST].concat()), 1, 77);
     // Products that are 0 in 32 or in 64 bits.
     let half = [0x40, 0, 0, 0];
@@ -182,22 +182,22 @@ fn every_unit_type() {
     ];
     for (unit, last) in last.into_iter().enumerate() {
         let field = |display| with_payload(&[25, unit as u8, display, 0, 0, 0, 0]);
-        assert_eq!(table_of(&field(last)), [[25, 68, 71, 4, 1]]);
+        assert_eq!(table_of(&field(last)), [[25, 68, 71, 4, 1, 1]]);
         refused(&field(last + 1), 12, 70);
     }
     for (unit, last) in (101..).zip([21, 38, 21, 24, 10, 27]) {
         let field = |display| with_payload(&[25, unit, 0, 8, display, 0, 0, 0, 0]);
-        assert_eq!(table_of(&field(last)), [[25, 68, 73, 4, 1]]);
+        assert_eq!(table_of(&field(last)), [[25, 68, 73, 4, 1, 1]]);
         refused(&field(last + 1), 12, 72);
     }
-    assert_eq!(table_of(&with_payload(&[25, 100, 3, 0xE8, 0, 0, 0, 0])), [[25, 68, 72, 4, 1]]);
+    assert_eq!(table_of(&with_payload(&[25, 100, 3, 0xE8, 0, 0, 0, 0])), [[25, 68, 72, 4, 1, 1]]);
 }
 
 #[test]
 fn money_per_area() {
     let field = [26, 101, 0x03, 0xD2, 21, 0x40, 0xA3, 0x88, 0, 0, 0, 0, 0];
     let message = with_payload(&field);
-    assert_eq!(table_of(&message), [[26, 68, 73, 8, 1]]);
+    assert_eq!(table_of(&message), [[26, 68, 73, 8, 1, 1]]);
     assert_eq!(judged(&message).expect("accepted").steps, 10);
 }
 
@@ -206,44 +206,47 @@ fn marks_per_column() {
     // Two columns, four rows: the time series of section 2.2.7.
     let head = [31, 0, 0, 0, 4, 0, 0, 0, 2, 26, 8, 0, 0];
     let message = with_payload(&[&head[..], &[0x40; 32]].concat());
-    assert_eq!(table_of(&message), [[31, 68, 81, 32, 2]]);
+    assert_eq!(table_of(&message), [[31, 68, 81, 32, 2, 8]]);
     assert_eq!(judged(&message).expect("accepted").steps, 11);
     // No rows: the marks of all columns are still there.
     let message = with_payload(&[32, 0, 0, 0, 0, 0, 0, 0, 3, 0, 0, 100, 0, 8, 101, 0, 8, 2]);
-    assert_eq!(table_of(&message), [[32, 68, 86, 0, 3]]);
+    assert_eq!(table_of(&message), [[32, 68, 86, 0, 3, 0]]);
     refused(&message[..85], 1, 85);
     // No columns: no marks, whatever the rows.
     let message = with_payload(&[&[31][..], &MOST, &[0; 4]].concat());
-    assert_eq!(table_of(&message), [[31, 68, 77, 0, 0]]);
+    assert_eq!(table_of(&message), [[31, 68, 77, 0, 0, 0]]);
     // Very many columns: the marks run out.
     refused(&with_payload(&[&[31, 0, 0, 0, 0][..], &MOST, &[0; 9]].concat()), 1, 86);
     refused(&with_payload(&[&[31, 0, 0, 0, 0][..], &MOST, &[0, 0, 0, 1]].concat()), 12, 80);
     // One mark even where a matrix has no values.
-    assert_eq!(table_of(&with_payload(&[30, 0, 0, 0, 0, 0, 0, 0, 0, 2, 1])), [[30, 68, 79, 0, 1]]);
+    assert_eq!(
+        table_of(&with_payload(&[30, 0, 0, 0, 0, 0, 0, 0, 0, 2, 1])),
+        [[30, 68, 79, 0, 1, 0]]
+    );
 }
 
 #[test]
 fn fields_of_the_manual() {
     let two = [27, 0, 0, 0, 2, 25, 7, 0x40, 0, 0, 0, 0x40, 0x20, 0, 0];
-    assert_eq!(table_of(&with_payload(&two)), [[27, 68, 75, 8, 1]]);
+    assert_eq!(table_of(&with_payload(&two)), [[27, 68, 75, 8, 1, 2]]);
     let cost = [&[28, 0, 0, 0, 200, 100, 0x03, 0x48][..], &[1; 1600]].concat();
-    assert_eq!(table_of(&with_payload(&cost)), [[28, 68, 76, 1600, 1]]);
+    assert_eq!(table_of(&with_payload(&cost)), [[28, 68, 76, 1600, 1, 200]]);
     let per_liter = [&[28, 0, 0, 0, 200, 106, 0x03, 0x48, 17][..], &[1; 1600]].concat();
-    assert_eq!(table_of(&with_payload(&per_liter)), [[28, 68, 77, 1600, 1]]);
+    assert_eq!(table_of(&with_payload(&per_liter)), [[28, 68, 77, 1600, 1, 200]]);
     let hello = b"\x09\0\0\0\x0BHello world\x02\0\0\0\x18\x06\x01";
-    let expected = [[9, 68, 73, 11, 0], [2, 84, 85, 4, 0], [6, 89, 90, 1, 0]];
+    let expected = [[9, 68, 73, 11, 0, 11], [2, 84, 85, 4, 0, 1], [6, 89, 90, 1, 0, 1]];
     assert_eq!(table_of(&with_fields(3, hello)), expected);
 }
 
 #[test]
 fn a_refusal_fills_no_table() {
     let message = with_fields(3, &[0, 1, 0, 2, 33]);
-    let mut table = [9; 20];
+    let mut table = [9; 24];
     assert_eq!(read(&message, Some(&mut table)), Err(Refusal::new(9, 72)));
-    assert_eq!(table, [9; 20]);
-    let mut short = [9; 4];
+    assert_eq!(table, [9; 24]);
+    let mut short = [9; 5];
     assert_eq!(read(&S, Some(&mut short)), Err(Refusal::new(14, 0)));
-    assert_eq!(short, [9; 4]);
+    assert_eq!(short, [9; 5]);
 }
 
 #[test]
@@ -254,7 +257,7 @@ fn the_table_is_judged_between_header_and_fields() {
     let none = with_fields(0, &[]);
     assert!(read(&none, Some(&mut [])).is_ok());
     assert_eq!(read(&with_fields(0, &[0]), Some(&mut [])), Err(Refusal::new(13, 68)));
-    assert!(read(&S, Some(&mut [0; 5])).is_ok());
+    assert!(read(&S, Some(&mut [0; 6])).is_ok());
 }
 
 #[test]
@@ -263,7 +266,7 @@ fn the_longest_message() {
     let array = [&[11][..], &size.to_be_bytes(), &vec![7; size as usize]].concat();
     let longest = with_payload(&array);
     assert_eq!(longest.len(), 32_768);
-    assert_eq!(table_of(&longest), [[11, 68, 73, size, 0]]);
+    assert_eq!(table_of(&longest), [[11, 68, 73, size, 0, size]]);
     refused(&[&longest[..], &[0]].concat(), 8, 0);
     refused(&[0; 32_769], 8, 0);
     refused(&[0; 32_768], 2, 0);

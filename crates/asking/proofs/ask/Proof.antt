@@ -1,6 +1,7 @@
 -- The message is judged whole; then there is no field k, or its row was kept.
 use mathlib.Core.Path.{refl, sym, ap, _∙_}
 use Rattle.sim0mq.specs.Answer.{fine}
+use Rattle.sim0mq.specs.Table.{rowSize}
 use Rattle.sim0mq.specs.Views.{judged}
 use Rattle.header.specs.declared.Answer.{Answer}
 use Rattle.front.proofs.FrontCases.{told-refused, told-accepted}
@@ -36,15 +37,8 @@ returns c =
     let said = sym (c .before .before .before .before .before .payload .ensures .0 .0) ∙ ap judged (c .before .before .enum-told .given .1) in
     ask-none _ _ (h .0) (h .1) _ _ (h .2) (h .3) _ said (c .if1 .taken)
 
-slice-aggregate-field-in : tie.Need-slice-aggregate-field-in
-slice-aggregate-field-in c = search needs
-
 field-in-requires : tie.Need-field-in-requires
-field-in-requires c κs =
-    let h = told-accepted _ _ _ _ (sym (ap (λ (x : Answer). x .said) (c .before .before .before .before .before .before .before .before .before .before .before .opened .ensures)) ∙ c .before .before .before .before .before .before .before .before .before .said2 .given .1) in
-    let said = sym (c .before .before .before .before .before .before .payload .ensures .0 .0) ∙ ap judged (c .before .before .before .enum-told .given .1) in
-    let found = ask-found _ _ (h .0) (h .1) _ _ (h .2) (h .3) _ said _ _ refl (c .before .before .before .before .before .before .payload .ensures .1) (c .before .if1 .left) in
-    (found .1, found .0)
+field-in-requires c κs = search needs
 
 returns-2 : tie.Need-returns-2
 returns-2 c =
@@ -58,11 +52,12 @@ returns-3 c =
     ask-refused _ _ (h .0) (h .1) _ _ (h .2) (h .3) _ _ said
 
 returns-4 : tie.Need-returns-4
+unfolding rowSize
 returns-4 c =
     let h = told-accepted _ _ _ _ (sym (ap (λ (x : Answer). x .said) (c .before .before .before .before .before .before .before .before .before .before .before .before .opened .ensures)) ∙ c .before .before .before .before .before .before .before .before .before .before .said2 .given .1) in
     let said = sym (c .before .before .before .before .before .before .before .payload .ensures .0 .0) ∙ ap judged (c .before .before .before .before .enum-told .given .1) in
     let found = ask-found _ _ (h .0) (h .1) _ _ (h .2) (h .3) _ said _ _ refl (c .before .before .before .before .before .before .before .payload .ensures .1) (c .before .before .if1 .left) in
-    ap fine (c .field-in .ensures) ∙ found .2
+    ap fine (c .field-in .ensures) ∙ found
 
 pub ask-spec : {M : Type 1} → statement M
 ask-spec =
@@ -76,7 +71,6 @@ ask-spec =
     enum-known-r
     enum-told
     returns
-    slice-aggregate-field-in
     field-in-requires
     returns-2
     returns-3

@@ -4,7 +4,7 @@ use Prim.Native.Nat.{_-_}
 use mathlib.Core.Path.{_≡_, refl}
 use lib.ListN.{length, drop}
 use Rattle.sim0mq.specs.Blank.{blanked}
-use Rattle.sim0mq.specs.Table.{placed}
+use Rattle.sim0mq.specs.Table.{placed, rowSize}
 use Rattle.blanking.specs.Blanking.{fieldsOf}
 use Rattle.blanking.proofs.BlankCases.{Left, left-start, left-row, left-stands, left-turn, left-end}
 use borrow.Author.Needs.{needs}
@@ -21,69 +21,80 @@ abbrev μ-loop : tie.MeasureT-loop
 loop-holds : tie.Need-loop-holds Inv-loop μ-loop
 loop-holds c = (left-start _ _ _ _ _ (c .before .before .before .pre), refl)
 
-mul-wide16 : tie.Need-mul-wide16 Inv-loop μ-loop
-mul-wide16 c =
+mul-wide32 : tie.Need-mul-wide32 Inv-loop μ-loop
+unfolding rowSize
+mul-wide32 c =
     let kept = left-row _ _ _ _ _ _ _ (c .before .loop .inv .0) (c .loop-test .taken) .2 in
     omega arith
 
-add-wide16 : tie.Need-add-wide16 Inv-loop μ-loop
-add-wide16 c =
+add-wide32 : tie.Need-add-wide32 Inv-loop μ-loop
+unfolding rowSize
+add-wide32 c =
     let kept = left-row _ _ _ _ _ _ _ (c .before .loop .inv .0) (c .loop-test .taken) .2 in
     omega arith
 
-mul-wide16-2 : tie.Need-mul-wide16-2 Inv-loop μ-loop
-mul-wide16-2 c =
+mul-wide32-2 : tie.Need-mul-wide32-2 Inv-loop μ-loop
+unfolding rowSize
+mul-wide32-2 c =
     let kept = left-row _ _ _ _ _ _ _ (c .before .loop .inv .0) (c .loop-test .taken) .2 in
     omega arith
 
-shared-slice-read-wide16 : tie.Need-shared-slice-read-wide16 Inv-loop μ-loop
-shared-slice-read-wide16 c =
+shared-slice-read-wide32 : tie.Need-shared-slice-read-wide32 Inv-loop μ-loop
+unfolding rowSize
+shared-slice-read-wide32 c =
     let kept = left-row _ _ _ _ _ _ _ (c .before .before .loop .inv .0) (c .before .loop-test .taken) .2 in
     omega arith
 
-wide16-requires : tie.Need-wide16-requires Inv-loop μ-loop
-wide16-requires c κs = search needs
+wide32-requires : tie.Need-wide32-requires Inv-loop μ-loop
+wide32-requires c κs = search needs
 
-mul-wide16-3 : tie.Need-mul-wide16-3 Inv-loop μ-loop
-mul-wide16-3 c =
+mul-wide32-3 : tie.Need-mul-wide32-3 Inv-loop μ-loop
+unfolding rowSize
+mul-wide32-3 c =
     let kept = left-row _ _ _ _ _ _ _ (c .before .before .before .loop .inv .0) (c .before .before .loop-test .taken) .2 in
     omega arith
 
-add-wide16-2 : tie.Need-add-wide16-2 Inv-loop μ-loop
-add-wide16-2 c =
+add-wide32-2 : tie.Need-add-wide32-2 Inv-loop μ-loop
+unfolding rowSize
+add-wide32-2 c =
     let kept = left-row _ _ _ _ _ _ _ (c .before .before .before .loop .inv .0) (c .before .before .loop-test .taken) .2 in
     omega arith
 
-mul-wide16-4 : tie.Need-mul-wide16-4 Inv-loop μ-loop
-mul-wide16-4 c =
+mul-wide32-4 : tie.Need-mul-wide32-4 Inv-loop μ-loop
+unfolding rowSize
+mul-wide32-4 c =
     let kept = left-row _ _ _ _ _ _ _ (c .before .before .before .loop .inv .0) (c .before .before .loop-test .taken) .2 in
     omega arith
 
-shared-slice-read-wide16-2 : tie.Need-shared-slice-read-wide16-2 Inv-loop μ-loop
-shared-slice-read-wide16-2 c =
+shared-slice-read-wide32-2 : tie.Need-shared-slice-read-wide32-2 Inv-loop μ-loop
+unfolding rowSize
+shared-slice-read-wide32-2 c =
     let kept = left-row _ _ _ _ _ _ _ (c .before .before .before .before .loop .inv .0) (c .before .before .before .loop-test .taken) .2 in
     omega arith
 
-wide16-requires-2 : tie.Need-wide16-requires-2 Inv-loop μ-loop
-wide16-requires-2 c κs = search needs
+wide32-requires-2 : tie.Need-wide32-requires-2 Inv-loop μ-loop
+wide32-requires-2 c κs = search needs
 
 sub-put : tie.Need-sub-put Inv-loop μ-loop
+unfolding rowSize
 sub-put c =
-    let stands = left-stands _ _ _ _ _ _ _ (c .before .before .before .before .before .loop .inv .0) (c .before .before .before .before .loop-test .taken) _ _ (c .before .before .wide16 .ensures .0) (c .wide162 .ensures .0) in
+    let stands = left-stands _ _ _ _ _ _ _ (c .before .before .before .before .before .loop .inv .0) (c .before .before .before .before .loop-test .taken) _ _ (c .before .before .wide32 .ensures .0) (c .wide322 .ensures .0) in
     let before = stands .0 in
     let end = stands .1 in
     omega arith
 
 part-put-start : tie.Need-part-put-start Inv-loop μ-loop
+unfolding rowSize
 part-put-start c =
-    let stands = left-stands _ _ _ _ _ _ _ (c .before .before .before .before .before .loop .inv .0) (c .before .before .before .before .loop-test .taken) _ _ (c .before .before .wide16 .ensures .0) (c .wide162 .ensures .0) in
+    let stands = left-stands _ _ _ _ _ _ _ (c .before .before .before .before .before .loop .inv .0) (c .before .before .before .before .loop-test .taken) _ _ (c .before .before .wide32 .ensures .0) (c .wide322 .ensures .0) in
     let before = stands .0 in
     let end = stands .1 in
     omega arith
 
 part-put-end : tie.Need-part-put-end Inv-loop μ-loop
+unfolding rowSize
 part-put-end c =
-    let stands = left-stands _ _ _ _ _ _ _ (c .before .before .before .before .before .loop .inv .0) (c .before .before .before .before .loop-test .taken) _ _ (c .before .before .wide16 .ensures .0) (c .wide162 .ensures .0) in
+    let stands = left-stands _ _ _ _ _ _ _ (c .before .before .before .before .before .loop .inv .0) (c .before .before .before .before .loop-test .taken) _ _ (c .before .before .wide32 .ensures .0) (c .wide322 .ensures .0) in
     let before = stands .0 in
     let end = stands .1 in
     omega arith
@@ -95,8 +106,9 @@ clear-requires : tie.Need-clear-requires Inv-loop μ-loop
 clear-requires c κs = search needs
 
 add-at : tie.Need-add-at Inv-loop μ-loop
+unfolding rowSize
 add-at c =
-    let end = left-stands _ _ _ _ _ _ _ (c .before .before .before .before .before .before .before .before .before .before .before .before .before .before .loop .inv .0) (c .before .before .before .before .before .before .before .before .before .before .before .before .before .loop-test .taken) _ _ (c .before .before .before .before .before .before .before .before .before .before .before .wide16 .ensures .0) (c .before .before .before .before .before .before .before .before .before .wide162 .ensures .0) .1 in
+    let end = left-stands _ _ _ _ _ _ _ (c .before .before .before .before .before .before .before .before .before .before .before .before .before .before .loop .inv .0) (c .before .before .before .before .before .before .before .before .before .before .before .before .before .loop-test .taken) _ _ (c .before .before .before .before .before .before .before .before .before .before .before .wide32 .ensures .0) (c .before .before .before .before .before .before .before .before .before .wide322 .ensures .0) .1 in
     omega arith
 
 add-k : tie.Need-add-k Inv-loop μ-loop
@@ -106,9 +118,10 @@ loop-less : tie.Need-loop-less Inv-loop μ-loop
 loop-less c = search needs
 
 loop-again : tie.Need-loop-again Inv-loop μ-loop
+unfolding rowSize
 loop-again c =
-    let first = c .before .before .before .before .before .before .before .before .before .before .before .wide16 .ensures .0 in
-    let size = c .before .before .before .before .before .before .before .before .before .wide162 .ensures .0 in
+    let first = c .before .before .before .before .before .before .before .before .before .before .before .wide32 .ensures .0 in
+    let size = c .before .before .before .before .before .before .before .before .before .wide322 .ensures .0 in
     let inv = c .before .before .before .before .before .before .before .before .before .before .before .before .before .before .loop .inv in
     (left-turn _ _ _ _ _ _ _ (inv .0) (c .before .before .before .before .before .before .before .before .before .before .before .before .before .loop-test .taken) _ _ (c .before .before .before .before .before .before .put .last .1 .0) (c .before .before .clear .last .0) first size (c .before .before .before .before .before .before .put .ensures) (c .before .before .clear .ensures) (omega arith), omega arith)
 
@@ -125,16 +138,16 @@ blank-fields-spec =
     Inv-loop
     μ-loop
     loop-holds
-    mul-wide16
-    add-wide16
-    mul-wide16-2
-    shared-slice-read-wide16
-    wide16-requires
-    mul-wide16-3
-    add-wide16-2
-    mul-wide16-4
-    shared-slice-read-wide16-2
-    wide16-requires-2
+    mul-wide32
+    add-wide32
+    mul-wide32-2
+    shared-slice-read-wide32
+    wide32-requires
+    mul-wide32-3
+    add-wide32-2
+    mul-wide32-4
+    shared-slice-read-wide32-2
+    wide32-requires-2
     sub-put
     part-put-start
     part-put-end

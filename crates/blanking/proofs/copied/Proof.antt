@@ -24,6 +24,7 @@ slice-aggregate-copied-by-2 : tie.Need-slice-aggregate-copied-by-2
 slice-aggregate-copied-by-2 c = search needs
 
 copied-by-requires-2 : tie.Need-copied-by-requires-2
+unfolding rowSize
 copied-by-requires-2 c κs = search needs
 
 same-length-2 : tie.Need-same-length-2

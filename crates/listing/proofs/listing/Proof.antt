@@ -21,14 +21,14 @@ use Rattle.listing.proofs.listing.Statement.{statement}
 use Rattle.listing.proofs.listing.Tie as tie
 
 -- a table too short for the rows, and one that is long enough
-short : (said : Reading) (f : Found) (table : List ℕ) → said ≡ Accepted f → length table / 5 < f .fields → wholeText said table ≡ []
+short : (said : Reading) (f : Found) (table : List ℕ) → said ≡ Accepted f → length table / rowSize < f .fields → wholeText said table ≡ []
 unfolding enough rowSize
-short said f table e h = rw (e, lt-leb (5 * f .fields) (length table) (omega arith))
+short said f table e h = rw (e, lt-leb (rowSize * f .fields) (length table) (omega arith))
 
-long : (said : Reading) (f : Found) (table : List ℕ) → said ≡ Accepted f → f .fields ≤ length table / 5
+long : (said : Reading) (f : Found) (table : List ℕ) → said ≡ Accepted f → f .fields ≤ length table / rowSize
     → wholeText said table ≡ acceptedText f ++ rowsText table (f .fields)
 unfolding enough rowSize
-long said f table e h = rw (e, le-leb (5 * f .fields) (length table) (omega arith))
+long said f table e h = rw (e, le-leb (rowSize * f .fields) (length table) (omega arith))
 
 -- no text leaves the buffer as it was, and has no bytes
 nothing : (out : List ℕ) (text : List (List ℕ)) → text ≡ [] → (0 ≡ bytesOf out text) × (out ≡ outAfter out text)
@@ -48,6 +48,7 @@ enum-known-said : tie.Need-enum-known-said
 enum-known-said c = search needs
 
 returns : tie.Need-returns
+unfolding rowSize
 returns c =
     let m = c .before .before .before in
     let a = m .before .before .before .before .args in
@@ -73,6 +74,7 @@ same-length : tie.Need-same-length
 same-length c = search needs
 
 returns-2 : tie.Need-returns-2
+unfolding rowSize
 returns-2 c =
     let r = c .before .before .before .before in
     let l = r .before .before .before .before in

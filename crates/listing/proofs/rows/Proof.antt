@@ -23,16 +23,16 @@ turn start before after table numbers i e f g =
     (f ∙ (rw (e, g) (sym (put-append start (rowsText table i) (rowText i (take rowSize (drop (rowSize * i) table)))))))
 
 -- the numbers of field i
-numbers-of : (table : List ℕ) (i : ℕ) → take (5 * i + 5 - 5 * i) (drop (5 * i) table) ≡ take rowSize (drop (rowSize * i) table)
+numbers-of : (table : List ℕ) (i : ℕ) → take (rowSize * i + rowSize - rowSize * i) (drop (rowSize * i) table) ≡ take rowSize (drop (rowSize * i) table)
 unfolding rowSize
 numbers-of table i =
-    let e : 5 * i + 5 - 5 * i ≡ 5 = omega arith in
+    let e : rowSize * i + rowSize - rowSize * i ≡ rowSize = omega arith in
     rw e
 
 abbrev Inv-loop : tie.InvT-loop
 Inv-loop fields table out₀ from at₀ i₀ out at i =
     (i ≤ fields)
-    × (5 * fields ≤ length table)
+    × (rowSize * fields ≤ length table)
     × (length out ≡ length out₀)
     × (buffer out at ≡ putAll (buffer out₀ at₀) (rowsText table i))
 
@@ -44,24 +44,31 @@ unfolding putAll rowsText rowSize
 loop-holds c = search needs
 
 mul-row : tie.Need-mul-row Inv-loop μ-loop
+unfolding rowSize
 mul-row c = search needs
 
 mul-row-2 : tie.Need-mul-row-2 Inv-loop μ-loop
+unfolding rowSize
 mul-row-2 c = search needs
 
 add-row : tie.Need-add-row Inv-loop μ-loop
+unfolding rowSize
 add-row c = search needs
 
 mul-row-3 : tie.Need-mul-row-3 Inv-loop μ-loop
+unfolding rowSize
 mul-row-3 c = search needs
 
 sub-row : tie.Need-sub-row Inv-loop μ-loop
+unfolding rowSize
 sub-row c = search needs
 
 part-row-start : tie.Need-part-row-start Inv-loop μ-loop
+unfolding rowSize
 part-row-start c = search needs
 
 part-row-end : tie.Need-part-row-end Inv-loop μ-loop
+unfolding rowSize
 part-row-end c = search needs
 
 row-requires : tie.Need-row-requires Inv-loop μ-loop
@@ -74,6 +81,7 @@ loop-less : tie.Need-loop-less Inv-loop μ-loop
 loop-less c = search needs
 
 loop-again : tie.Need-loop-again Inv-loop μ-loop
+unfolding rowSize
 loop-again c =
     let r = c .before .before in
     let l = r .before .before .before .before in

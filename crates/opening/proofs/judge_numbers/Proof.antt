@@ -4,6 +4,7 @@ use native.Mathlib.Omega.{arith}
 use Prim.Native.Nat.{ℕ, _+_}
 use mathlib.Core.Path.{sym, ap, _∙_}
 use mathlib.Core.Logic.{⊎-elim}
+use Rattle.sim0mq.specs.Message.{limit}
 use Rattle.sim0mq.specs.Codes.{widthOf}
 use Rattle.sim0mq.proofs.Rows.{eight-wide}
 use Rattle.opening.proofs.HeaderCases.{numbers-low, numbers-high, numbers-type, numbers-many, numbers-above, numbers-long, numbers-room, numbers-fine}
@@ -62,6 +63,7 @@ refuse-requires-6 : tie.Need-refuse-requires-6
 refuse-requires-6 c κs = search needs
 
 returns-6 : tie.Need-returns-6
+unfolding limit
 returns-6 c =
     let width = ap (λ (w : ℕ). 22 + w) (c .before .before .width .ensures ∙ ap widthOf (c .before .before .before .wide .ensures .0)) in
     c .refuse6 .ensures ∙ sym (numbers-long _ _ _ _ _ (omega arith) (omega arith) _ (omega arith) (omega arith) (⊎-elim (λ w e. w .1 .left) (λ w e. absurd (w .left e)) (c .before .before .before .before .if5 .came)) width (c .before .if7 .taken))
@@ -76,6 +78,7 @@ refuse-requires-7 : tie.Need-refuse-requires-7
 refuse-requires-7 c κs = search needs
 
 returns-7 : tie.Need-returns-7
+unfolding limit
 returns-7 c =
     let width = ap (λ (w : ℕ). 22 + w) (c .before .before .before .width .ensures ∙ ap widthOf (c .before .before .before .before .wide .ensures .0)) in
     c .refuse7 .ensures ∙ sym (numbers-room _ _ _ _ _ (omega arith) (omega arith) _ (omega arith) (omega arith) (⊎-elim (λ w e. w .1 .left) (λ w e. absurd (w .left e)) (c .before .before .before .before .before .if5 .came)) width (c .before .before .if7 .left) (c .before .if8 .taken))
@@ -84,6 +87,7 @@ add-t9 : tie.Need-add-t9
 add-t9 c = search needs
 
 returns-8 : tie.Need-returns-8
+unfolding limit
 returns-8 c =
     let width = ap (λ (w : ℕ). 22 + w) (c .before .before .width .ensures ∙ ap widthOf (c .before .before .before .wide .ensures .0)) in
     sym (numbers-fine _ _ _ _ _ (omega arith) (omega arith) _ (omega arith) (omega arith) (⊎-elim (λ w e. w .1 .left) (λ w e. absurd (w .left e)) (c .before .before .before .before .if5 .came)) width (c .before .if7 .left) (c .if8 .left))

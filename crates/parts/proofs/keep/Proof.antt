@@ -2,6 +2,7 @@
 use borrow.Author.Needs.{needs}
 use native.Mathlib.Omega.{arith}
 use mathlib.Core.Path.{_∙_}
+use Rattle.sim0mq.specs.Table.{rowSize}
 use Rattle.parts.proofs.KeptCases.{kept-before, kept-here, kept-full}
 use Rattle.parts.proofs.keep.Statement.{statement}
 use Rattle.parts.proofs.keep.Tie as tie
@@ -10,9 +11,11 @@ returns : tie.Need-returns
 returns c = kept-before _ _ _ _ _ (c .if1 .taken)
 
 mul-store : tie.Need-mul-store
+unfolding rowSize
 mul-store c = search needs
 
 store-requires : tie.Need-store-requires
+unfolding rowSize
 store-requires c κs =
     let room = c .before .before .before .before .pre .0 in
     (omega arith, c .before .before .before .before .pre .1 (omega arith))
@@ -21,6 +24,7 @@ same-length : tie.Need-same-length
 same-length c = search needs
 
 returns-2 : tie.Need-returns-2
+unfolding rowSize
 returns-2 c =
     let from = c .before .before .before .before .before .before .before .args .k in
     let at = c .before .before .before .before .before .before .before .args .i in

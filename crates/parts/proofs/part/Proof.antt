@@ -9,6 +9,7 @@ use lib.ListN.{length}
 use Rattle.sim0mq.specs.Answer.{fine}
 use Rattle.sim0mq.specs.Mark.{marks}
 use Rattle.sim0mq.specs.Payload.{moved}
+use Rattle.sim0mq.specs.Table.{rowSize}
 use Rattle.sim0mq.specs.Views.{judged}
 use Rattle.heads.specs.Heads.{headed}
 use Rattle.parts.specs.Parts.{stepsFrom, partSteps}
@@ -117,6 +118,7 @@ found-requires : tie.Need-found-requires Inv-loop μ-loop Inv-fields μ-fields
 found-requires c κs = search needs
 
 keep-requires : tie.Need-keep-requires Inv-loop μ-loop Inv-fields μ-fields
+unfolding rowSize
 keep-requires c κs =
     let headed-as = sym (c .before .before .before .before .before .before .before .before .before .before .before .head .ensures) ∙ ap headed (c .before .before .before .before .before .before .before .before .before .h .given .1) in
     let marked = c .before .before .before .before .before .before .before .loop .inv .0 ∙ marks-done _ _ _ (omega arith) in

@@ -1,4 +1,4 @@
--- Five stores in a row are the run of stores that they write out, and each number fits.
+-- Six stores in a row are the run of stores that they write out, and each number fits.
 use native.Mathlib.Omega.{arith}
 use borrow.Author.Needs.{needs}
 use lib.ListN.{length-set}
@@ -71,6 +71,18 @@ mul-kept-5 c = search needs
 slice-write-kept-5 : tie.Need-slice-write-kept-5
 slice-write-kept-5 c = simp length-set (omega arith)
 
+cast-kept-6 : tie.Need-cast-kept-6
+cast-kept-6 c = search needs
+
+add-kept-7 : tie.Need-add-kept-7
+add-kept-7 c = search needs
+
+mul-kept-6 : tie.Need-mul-kept-6
+mul-kept-6 c = search needs
+
+slice-write-kept-6 : tie.Need-slice-write-kept-6
+slice-write-kept-6 c = simp length-set (omega arith)
+
 same-length : tie.Need-same-length
 same-length c = search needs
 
@@ -103,5 +115,9 @@ store-spec =
     add-kept-6
     mul-kept-5
     slice-write-kept-5
+    cast-kept-6
+    add-kept-7
+    mul-kept-6
+    slice-write-kept-6
     same-length
     returns)

@@ -19,22 +19,16 @@ abbrev μ-loop : tie.MeasureT-loop
 μ-loop kept n table₀ i₀ table i = n - i
 
 loop-holds : tie.Need-loop-holds Inv-loop μ-loop
-loop-holds c = (omega arith, refl, paste-zero (c .before .before .args .table .now) 0 (c .before .before .args .kept .now))
-
-mul-wide16 : tie.Need-mul-wide16 Inv-loop μ-loop
-mul-wide16 c = search needs
-
-shared-slice-read-wide16 : tie.Need-shared-slice-read-wide16 Inv-loop μ-loop
-shared-slice-read-wide16 c = search needs
-
-wide16-requires : tie.Need-wide16-requires Inv-loop μ-loop
-wide16-requires c κs = search needs
-
-cast-table : tie.Need-cast-table Inv-loop μ-loop
-cast-table c = search needs
+loop-holds c = (omega arith, refl, paste-zero (c .args .table .now) 0 (c .args .kept .now))
 
 mul-table : tie.Need-mul-table Inv-loop μ-loop
 mul-table c = search needs
+
+shared-slice-read-table : tie.Need-shared-slice-read-table Inv-loop μ-loop
+shared-slice-read-table c = search needs
+
+mul-table-2 : tie.Need-mul-table-2 Inv-loop μ-loop
+mul-table-2 c = search needs
 
 slice-write-table : tie.Need-slice-write-table Inv-loop μ-loop
 slice-write-table c = search needs
@@ -47,15 +41,15 @@ loop-less c = search needs
 
 loop-again : tie.Need-loop-again Inv-loop μ-loop
 loop-again c =
-    let d : List ℕ = c .before .before .before .before .before .before .args .table .now in
-    let s : List ℕ = c .before .before .before .before .before .before .args .kept .now in
-    let i : ℕ = c .before .before .before .loop .i in
-    let inv = c .before .before .before .loop .inv in
-    let room = c .before .before .before .before .before .before .pre .1 in
+    let d : List ℕ = c .before .before .before .args .table .now in
+    let s : List ℕ = c .before .before .before .args .kept .now in
+    let i : ℕ = c .before .before .loop .i in
+    let inv = c .before .before .loop .inv in
+    let room = c .before .before .before .pre .1 in
     let step = paste-suc d 0 s i 0 (omega arith) (omega arith) in (
       omega arith,
       simp length-set (inv .1),
-      rw (inv .2, add-one i, c .wide16 .ensures .0) (ap (λ (k : ℕ). set (paste d 0 s i) k (getD s i 0)) (sym (zero-add i)) ∙ step),
+      rw (inv .2, add-one i) (ap (λ (k : ℕ). set (paste d 0 s i) k (getD s i 0)) (sym (zero-add i)) ∙ step),
     )
 
 same-length : tie.Need-same-length Inv-loop μ-loop
@@ -64,8 +58,8 @@ same-length c = search needs
 returns : tie.Need-returns Inv-loop μ-loop
 unfolding stored
 returns c =
-    let s : List ℕ = c .before .before .before .before .args .kept .now in
-    let n = c .before .before .before .before .args .n in
+    let s : List ℕ = c .before .before .args .kept .now in
+    let n = c .before .before .args .n in
     let e : c .before .loop .i ≡ n = omega arith in
     c .before .loop .inv .2 ∙ rw (e, length-take-le n s (omega arith), zero-add n) refl
 
@@ -76,11 +70,9 @@ copied-spec =
     Inv-loop
     μ-loop
     loop-holds
-    mul-wide16
-    shared-slice-read-wide16
-    wide16-requires
-    cast-table
     mul-table
+    shared-slice-read-table
+    mul-table-2
     slice-write-table
     add-i
     loop-less

@@ -24,6 +24,7 @@ slice-aggregate-filled-by-2 : tie.Need-slice-aggregate-filled-by-2
 slice-aggregate-filled-by-2 c = search needs
 
 filled-by-requires-2 : tie.Need-filled-by-requires-2
+unfolding rowSize
 filled-by-requires-2 c κs = search needs
 
 same-length-2 : tie.Need-same-length-2

@@ -50,6 +50,7 @@ same-length-3 : tie.Need-same-length-3
 same-length-3 c = search needs
 
 returns-2 : tie.Need-returns-2
+unfolding rowSize
 returns-2 c =
     let said = sym (c .before .before .before .before .before .before .before .before .before .before .payload .ensures .0 .0) ∙ ap judged (c .before .before .before .before .before .before .steps .given .1) in
     let most = length (c .before .before .before .before .before .before .before .before .before .before .before .before .before .before .before .args .message .now) + 1 in

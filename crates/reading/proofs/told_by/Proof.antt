@@ -1,6 +1,8 @@
 -- Each return is a case of the definition; the steps are too few for the sum to pass its type.
 use native.Mathlib.Omega.{arith}
+use Prim.Native.Nat.{_+_}
 use mathlib.Core.Path.{sym, ap, _∙_, subst}
+use Rattle.sim0mq.specs.Message.{limit}
 use Rattle.sim0mq.specs.Views.{judged}
 use Rattle.sim0mq.specs.declared.Judged.{Judged}
 use Rattle.numbers.specs.Numbers.{Below}
@@ -19,8 +21,9 @@ enum-known-said-2 : tie.Need-enum-known-said-2
 enum-known-said-2 c = search needs
 
 add-t8 : tie.Need-add-t8
+unfolding limit
 add-t8 c =
-    let below = subst (λ (j : Judged). Below 32769 j) (c .before .said2 .given .1) (c .before .before .before .pre) in
+    let below = subst (λ (j : Judged). Below (limit + 1) j) (c .before .said2 .given .1) (c .before .before .before .pre) in
     omega arith
 
 returns : tie.Need-returns

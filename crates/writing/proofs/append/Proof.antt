@@ -4,18 +4,21 @@ use native.Mathlib.Omega.{arith}
 use Prim.Native.Nat.{_+_, _≤_}
 use mathlib.Core.Path.{refl, _∙_}
 use lib.ListN.{length}
+use Rattle.sim0mq.specs.Message.{limit}
 use Rattle.buffers.proofs.PlaceLaws.{put-fits}
 use Rattle.writing.proofs.AddCases.{told-as, takes-within, fitting-long, fitting-full, fitting-fine}
 use Rattle.writing.proofs.append.Statement.{statement}
 use Rattle.writing.proofs.append.Tie as tie
 
 sub-if1 : tie.Need-sub-if1
+unfolding limit
 sub-if1 c = takes-within _ _ (c .before .before .pre) .1
 
 refused-requires : tie.Need-refused-requires
 refused-requires c κs = search needs
 
 returns : tie.Need-returns
+unfolding limit
 returns c =
     let within = takes-within _ _ (c .before .before .before .before .pre) in
     let long = fitting-long _ _ _ (within .1) (c .before .if1 .taken) in
@@ -28,6 +31,7 @@ refused-requires-2 : tie.Need-refused-requires-2
 refused-requires-2 c κs = search needs
 
 returns-2 : tie.Need-returns-2
+unfolding limit
 returns-2 c =
     let within = takes-within _ _ (c .before .before .before .before .before .pre) in
     let full = fitting-full _ _ _ (within .1) (c .before .before .if1 .left) (c .before .if2 .taken) in
@@ -40,6 +44,7 @@ add-written : tie.Need-add-written
 add-written c = search needs
 
 add-t7 : tie.Need-add-t7
+unfolding limit
 add-t7 c =
     let within = takes-within _ _ (c .before .before .before .before .before .before .before .before .before .pre) in
     omega arith
@@ -48,6 +53,7 @@ same-length : tie.Need-same-length
 same-length c = search needs
 
 returns-3 : tie.Need-returns-3
+unfolding limit
 returns-3 c =
     let within = takes-within _ _ (c .before .before .before .before .before .before .before .before .before .pre) in
     let fits = fitting-fine _ _ _ (within .1) (c .before .before .before .before .before .before .if1 .left) (c .before .before .before .before .before .if2 .left) (within .2) in
