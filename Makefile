@@ -1,7 +1,8 @@
 # make: prove the crates, build the programs and list a sample message. make test: the gate, from nothing, with the must-fail edits and the bindings'
 # tests. make calls: every public call with its contract. make example: the C example, built for this machine and run. make compare: a million cases of
-# the library against the independent reader in compare/. make bench: how fast both are, side by side.
-.PHONY: all test calls bindings example compare bench
+# the library against the independent reader in compare/. make bench: how fast both are, side by side. make versus BEFORE=FILE: how fast the library is
+# beside an earlier one, FILE being the libsim0mq.a of another checkout.
+.PHONY: all test calls bindings example compare bench versus
 
 PEER = cd compare && SIM0MQ_LIB_DIR=$(CURDIR)/target/native CARGO_TARGET_DIR=$(CURDIR)/target/native/compare cargo run --release --offline --quiet --features product
 
@@ -30,3 +31,11 @@ compare: target/native/libsim0mq.a
 
 bench: target/native/libsim0mq.a
 	@$(PEER) --bin bench -- peer product
+
+SHARED = cc -shared -Wl,--whole-archive
+
+versus: target/native/libsim0mq.a
+	@$(SHARED) $(BEFORE) -Wl,--no-whole-archive -o target/native/before.so
+	@$(SHARED) target/native/libsim0mq.a -Wl,--no-whole-archive -o target/native/now.so
+	@cc -std=c11 -D_POSIX_C_SOURCE=200809L -Wall -Wextra -O2 compare/versus.c -ldl -o target/native/versus
+	@target/native/versus target/native/before.so target/native/now.so
