@@ -3,7 +3,7 @@ use Prim.Native.Nat.{ℕ, _+_, _-_, _*_, _≤_, _<_}
 use mathlib.Core.Path.{_≡_, refl, ap, ap₂, sym, _∙_, subst}
 use mathlib.Core.List.{List, [], _∷_, _++_, append-assoc, map}
 use native.Mathlib.Omega.{arith}
-use lib.ListN.{length, getD, take, drop, replicate, length-append, length-drop, length-map}
+use lib.ListN.{length, getD, take, drop, replicate, length-append, length-take, length-drop, length-map}
 use lib.Seq.{take-append-le, drop-append-le, drop-drop, getD-drop}
 use lib.Dec.{leb}
 use borrow.Author.Tests.{le-leb, lt-leb, leb-true}
@@ -131,7 +131,7 @@ module _ (s kept all out : List ℕ) (n at i : ℕ) where
       let end = r .1 in
       (omega arith, omega arith)
 
-  pub left-turn : Left s kept all out n at i → i < n → (first size : ℕ) (copied next : List ℕ)
+  left-turn : Left s kept all out n at i → i < n → (first size : ℕ) (copied next : List ℕ)
       → first ≡ getD kept (rowSize * i + 2) 0 → size ≡ getD kept (rowSize * i + 3) 0
       → copied ≡ putIn out at (take (first - at) (drop at s)) → next ≡ clearedIn copied first size → length next ≡ length out
       → Left s kept all next n (first + size) (i + 1)
@@ -159,6 +159,23 @@ module _ (s kept all out : List ℕ) (n at i : ℕ) where
             whole = w ∙ ap₂ (λ (x y : ℕ). blanked (zeroed (placed out at (drop at s)) x y) fs) (sym first-is) (sym size-is) ∙ ap (λ (o : List ℕ). blanked o fs) turn;
             room = omega arith;
           }
+
+  -- what is put before a field's values ends where they begin
+  part-ends : (first : ℕ) → at ≤ first → first ≤ length s → at + length (take (first - at) (drop at s)) ≡ first
+  part-ends first h k = omega (arith, length-take (first - at) (drop at s), length-drop at s)
+
+  -- a turn that puts and clears at once
+  pub left-renewed : Left s kept all out n at i → i < n → (first size : ℕ) (next : List ℕ)
+      → first ≡ getD kept (rowSize * i + 2) 0 → size ≡ getD kept (rowSize * i + 3) 0
+      → next ≡ clearedIn (putIn out at (take (first - at) (drop at s))) (at + length (take (first - at) (drop at s))) size → length next ≡ length out
+      → Left s kept all next n (first + size) (i + 1)
+  left-renewed l h first size next p q z same =
+      let stands = left-stands l h first size p q in
+      let before = stands .0 in
+      let end = stands .1 in
+      let copied = putIn out at (take (first - at) (drop at s)) in
+      left-turn l h first size copied next p q refl
+      (z ∙ ap (λ (k : ℕ). clearedIn copied k size) (part-ends first (omega arith) (omega arith))) same
 
   -- after the last turn nothing is left, neither a field nor a byte
   pub left-end : Left s kept all out n at i → n ≤ i → out ≡ all

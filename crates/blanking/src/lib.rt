@@ -1,11 +1,12 @@
 // Blanking: a copy of a message that has zero in every payload value byte, so that it shows how the message is built and nothing of what it says.
 ghost use mathlib.Core.Path.{_≡_};
-ghost use Prim.Native.Nat.{_*_};
+ghost use Prim.Native.Nat.{_+_, _*_, _≤_};
 ghost use lib.ListN.{length, drop};
 ghost use Rattle.sim0mq.specs.Blank.{blanked, blanking, outputAfter};
 ghost use Rattle.sim0mq.specs.Views.{judged as told};
 ghost use Rattle.blanking.specs.Blanking.{lengthOf, copying, fieldsOf, Copyable, Blankable};
 ghost use Rattle.sim0mq.specs.Table.{placed, rowSize};
+ghost use Rattle.buffers.specs.Placing.{putIn, clearedIn};
 use buffers::clear;
 use buffers::put;
 use front::Lent;
@@ -15,6 +16,24 @@ use numbers::wide32;
 use payload::payload;
 use sim0mq::Judged;
 use sim0mq::ROW;
+
+// The bytes of `text` in `out` from `at` on, and zero in the n bytes after them.
+fn renew(text: &[u8], out: &mut [u8], at: usize, n: usize)
+    requires { ⌜ at + length (now text) + n ≤ length (now out) ⌝ }
+    ensures { λ _. ⌜ now (out .exit) ≡ clearedIn (putIn (now (out .entry)) at (now (text .entry))) (at + length (now (text .entry))) n ⌝ }
+{
+    if text.len() == 1 {
+        out[at] = text[0];
+        if n == 1 {
+            out[at + 1] = 0;
+            return;
+        }
+        clear(out, at + 1, n);
+        return;
+    }
+    put(text, out, at);
+    clear(out, at + text.len(), n);
+}
 
 // The copy of an accepted message in `out`, from `next` on, where its payload of n fields begins, whose rows are kept: of each field its code, counts and marks,
 // and zero for its value bytes, which are not read.
@@ -27,8 +46,7 @@ fn blank_fields(message: &[u8], next: usize, n: usize, kept: &[u32], out: &mut [
     while k < n {
         let first = wide32(kept[ROW * k + 2]);
         let size = wide32(kept[ROW * k + 3]);
-        put(&message[at..first], out, at);
-        clear(out, first, size);
+        renew(&message[at..first], out, at, size);
         at = first + size;
         k += 1;
     }

@@ -2,11 +2,11 @@
 use native.Mathlib.Omega.{arith}
 use Prim.Native.Nat.{_-_}
 use mathlib.Core.Path.{_≡_, refl}
-use lib.ListN.{length, drop}
+use lib.ListN.{length, drop, length-take, length-drop}
 use Rattle.sim0mq.specs.Blank.{blanked}
 use Rattle.sim0mq.specs.Table.{placed, rowSize}
 use Rattle.blanking.specs.Blanking.{fieldsOf}
-use Rattle.blanking.proofs.BlankCases.{Left, left-start, left-row, left-stands, left-turn, left-end}
+use Rattle.blanking.proofs.BlankCases.{Left, left-start, left-row, left-stands, left-renewed, left-end}
 use borrow.Author.Needs.{needs}
 use Rattle.blanking.proofs.blank_fields.Statement.{statement}
 use Rattle.blanking.proofs.blank_fields.Tie as tie
@@ -75,40 +75,44 @@ shared-slice-read-wide32-2 c =
 wide32-requires-2 : tie.Need-wide32-requires-2 Inv-loop μ-loop
 wide32-requires-2 c κs = search needs
 
-sub-put : tie.Need-sub-put Inv-loop μ-loop
+sub-renew : tie.Need-sub-renew Inv-loop μ-loop
 unfolding rowSize
-sub-put c =
+sub-renew c =
     let stands = left-stands _ _ _ _ _ _ _ (c .before .before .before .before .before .loop .inv .0) (c .before .before .before .before .loop-test .taken) _ _ (c .before .before .wide32 .ensures .0) (c .wide322 .ensures .0) in
     let before = stands .0 in
     let end = stands .1 in
     omega arith
 
-part-put-start : tie.Need-part-put-start Inv-loop μ-loop
+part-renew-start : tie.Need-part-renew-start Inv-loop μ-loop
 unfolding rowSize
-part-put-start c =
+part-renew-start c =
     let stands = left-stands _ _ _ _ _ _ _ (c .before .before .before .before .before .loop .inv .0) (c .before .before .before .before .loop-test .taken) _ _ (c .before .before .wide32 .ensures .0) (c .wide322 .ensures .0) in
     let before = stands .0 in
     let end = stands .1 in
     omega arith
 
-part-put-end : tie.Need-part-put-end Inv-loop μ-loop
+part-renew-end : tie.Need-part-renew-end Inv-loop μ-loop
 unfolding rowSize
-part-put-end c =
+part-renew-end c =
     let stands = left-stands _ _ _ _ _ _ _ (c .before .before .before .before .before .loop .inv .0) (c .before .before .before .before .loop-test .taken) _ _ (c .before .before .wide32 .ensures .0) (c .wide322 .ensures .0) in
     let before = stands .0 in
     let end = stands .1 in
     omega arith
 
-put-requires : tie.Need-put-requires Inv-loop μ-loop
-put-requires c κs = search needs
-
-clear-requires : tie.Need-clear-requires Inv-loop μ-loop
-clear-requires c κs = search needs
+renew-requires : tie.Need-renew-requires Inv-loop μ-loop
+unfolding rowSize
+renew-requires c κs =
+    let inv = c .before .before .before .before .before .before .before .loop .inv .0 in
+    let stands = left-stands _ _ _ _ _ _ _ inv (c .before .before .before .before .before .before .loop-test .taken) _ _ (c .before .before .before .before .wide32 .ensures .0) (c .before .before .wide322 .ensures .0) in
+    let before = stands .0 in
+    let end = stands .1 in
+    let room = inv .room in
+    simp (length-take, length-drop) (omega arith)
 
 add-at : tie.Need-add-at Inv-loop μ-loop
 unfolding rowSize
 add-at c =
-    let end = left-stands _ _ _ _ _ _ _ (c .before .before .before .before .before .before .before .before .before .before .before .before .before .before .loop .inv .0) (c .before .before .before .before .before .before .before .before .before .before .before .before .before .loop-test .taken) _ _ (c .before .before .before .before .before .before .before .before .before .before .before .wide32 .ensures .0) (c .before .before .before .before .before .before .before .before .before .wide322 .ensures .0) .1 in
+    let end = left-stands _ _ _ _ _ _ _ (c .before .before .before .before .before .before .before .before .before .before .loop .inv .0) (c .before .before .before .before .before .before .before .before .before .loop-test .taken) _ _ (c .before .before .before .before .before .before .before .wide32 .ensures .0) (c .before .before .before .before .before .wide322 .ensures .0) .1 in
     omega arith
 
 add-k : tie.Need-add-k Inv-loop μ-loop
@@ -120,10 +124,10 @@ loop-less c = search needs
 loop-again : tie.Need-loop-again Inv-loop μ-loop
 unfolding rowSize
 loop-again c =
-    let first = c .before .before .before .before .before .before .before .before .before .before .before .wide32 .ensures .0 in
-    let size = c .before .before .before .before .before .before .before .before .before .wide322 .ensures .0 in
-    let inv = c .before .before .before .before .before .before .before .before .before .before .before .before .before .before .loop .inv in
-    (left-turn _ _ _ _ _ _ _ (inv .0) (c .before .before .before .before .before .before .before .before .before .before .before .before .before .loop-test .taken) _ _ (c .before .before .before .before .before .before .put .last .1 .0) (c .before .before .clear .last .0) first size (c .before .before .before .before .before .before .put .ensures) (c .before .before .clear .ensures) (omega arith), omega arith)
+    let first = c .before .before .before .before .before .before .before .wide32 .ensures .0 in
+    let size = c .before .before .before .before .before .wide322 .ensures .0 in
+    let inv = c .before .before .before .before .before .before .before .before .before .before .loop .inv in
+    (left-renewed _ _ _ _ _ _ _ (inv .0) (c .before .before .before .before .before .before .before .before .before .loop-test .taken) _ _ (c .before .before .renew .last .1 .0) first size (c .before .before .renew .ensures) (omega arith), omega arith)
 
 same-length : tie.Need-same-length Inv-loop μ-loop
 same-length c = search needs
@@ -148,11 +152,10 @@ blank-fields-spec =
     mul-wide32-4
     shared-slice-read-wide32-2
     wide32-requires-2
-    sub-put
-    part-put-start
-    part-put-end
-    put-requires
-    clear-requires
+    sub-renew
+    part-renew-start
+    part-renew-end
+    renew-requires
     add-at
     add-k
     loop-less
