@@ -1,7 +1,8 @@
 /*
- * versus BEFORE NOW [ROUNDS]: times two builds of the library, shared objects with the calls of bindings/c/sim0mq.h, in one process. In each round both
- * are timed, in turns; a row shows the time of the first, the median of the rounds' ratios (above 1 the second is slower) and their quartiles.
- * The field table is long enough for rows of six numbers, so that a build whose rows have five is served too.
+ * versus BEFORE NOW [ROUNDS]: times two builds of the library, shared objects with the calls of bindings/c/sim0mq.h, in
+ * one process. In each round both are timed, in turns; a row shows the time of the first, the median of the rounds'
+ * ratios (above 1 the second is slower) and their quartiles. The field table is long enough for rows of six numbers, so
+ * that a build whose rows have five is served too.
  */
 #include <dlfcn.h>
 #include <stdint.h>

@@ -83,10 +83,12 @@ extern "C" {
  *     answer[5 + 2 * i]      the place of header frame i, 0 to 7
  *     answer[6 + 2 * i]      the type code of header frame i
  *
- * The table gets six numbers for each field: code, place of the code byte, place of the first value byte, number of value bytes, number of marks,
- * number of values as its counts say it (characters, elements, rows times columns, 1 for a scalar); its later numbers stay.
- * Refusals, in the order of reading: 8; the frames' (1 to 7); 14 where the table has fewer than six numbers for each declared field; the fields' (1, 5,
- * 9 to 12, 19); 13. Refused, the table is as it was. A table of SIM0MQ_MOST_FIELDS * SIM0MQ_ROW_NUMBERS numbers is enough for every message.
+ * The table gets six numbers for each field: code, place of the code byte, place of the first value byte, number of
+ * value bytes, number of marks, number of values as its counts say it (characters, elements, rows times columns, 1 for
+ * a scalar); its later numbers stay.
+ * Refusals, in the order of reading: 8; the frames' (1 to 7); 14 where the table has fewer than six numbers for each
+ * declared field; the fields' (1, 5, 9 to 12, 19); 13. Refused, the table is as it was. A table of SIM0MQ_MOST_FIELDS *
+ * SIM0MQ_ROW_NUMBERS numbers is enough for every message.
  */
 uint32_t sim0mq_read(const uint8_t *message, size_t message_len, uint32_t *table, size_t table_len, uint64_t *answer, size_t answer_len);
 

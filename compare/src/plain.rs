@@ -14,7 +14,8 @@ type Judged<T> = Result<T, Refusal>;
 #[derive(Clone, Copy, Debug)]
 pub struct Plain;
 
-/// The currency codes of the manual's Appendix A, section 100, in its order.
+/// The currency codes of the manual's Appendix A, section 100, in its order: typed a second time, apart from the peer's
+/// list, which goes by the numbers, so that a slip in either shows as a difference.
 pub const CURRENCIES: [u16; 180] = [
     784, 971, 8, 51, 532, 973, 32, 36, 533, 944, 977, 52, 50, 975, 48, 108, 60, 96, 68, 984, 986,
     44, 64, 72, 933, 974, 84, 124, 976, 947, 756, 948, 990, 152, 156, 170, 970, 188, 931, 192, 132,

@@ -1,4 +1,5 @@
--- Field k is the one whose row is kept: the fields before it are passed over, and after it there is no row left. The row tells all of the field.
+-- Field k is the one whose row is kept: the fields before it are passed over, and after it there is no row left. The
+-- row tells all of the field.
 use Prim.Native.Nat.{ℕ, zero, suc, _+_, _-_, _*_, _/_, _≤_, _<_}
 use mathlib.Core.Path.{_≡_, refl, ap, ap₂, sym, _∙_}
 use mathlib.Core.List.{List, [], _∷_, _++_, append-nil, map}

@@ -1,4 +1,5 @@
--- A word of currency codes is the list's, since a test computed over its 64 codes passes; past the last word there is no code.
+-- A word of currency codes is the list's, since a test computed over its 64 codes passes; past the last word there is
+-- no code.
 use Prim.Native.Nat.{ℕ, _+_, _*_, _≤_, _<_}
 use mathlib.Core.Path.{_≡_, refl, sym}
 use mathlib.Core.Bool.{Bool, true, false, not, false≢true}

@@ -1,5 +1,5 @@
--- Bytes after the last item, and nothing else, are refused by 13: what is refused so at p is a message in its first p bytes, and a message followed by
--- bytes is refused so at its length.
+-- Bytes after the last item, and nothing else, are refused by 13: what is refused so at p is a message in its first p
+-- bytes, and a message followed by bytes is refused so at its length.
 use Prim.Native.Nat.{ℕ, zero, suc, _+_, _≤_, _<_, zero-le}
 use mathlib.Core.Path.{_≡_, refl, ap, sym, _∙_, subst}
 use mathlib.Core.Bool.{Bool, true, false, false≢true}

@@ -1,5 +1,5 @@
--- A mark judged by a row of last display codes that is lent, so that the code lays the row out once for many marks. By the
--- format's own row it is the format's mark (proofs/ByLaws.antt).
+-- A mark judged by a row of last display codes that is lent, so that the code lays the row out once for many marks. By
+-- the format's own row it is the format's mark (proofs/ByLaws.antt).
 use Prim.Native.Nat.{ℕ, _+_}
 use mathlib.Core.List.{List}
 use lib.ListN.{getD}

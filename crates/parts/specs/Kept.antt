@@ -29,7 +29,8 @@ unfoldable pub keptAll : ℕ → ℕ → ℕ → List Field → List ℕ → Lis
 keptAll many k i [] kept = kept
 keptAll many k i (f ∷ fs) kept = keptAll many k (i + 1) fs (keptOne many k i f kept)
 
--- How many rows there are in so many numbers; none for a message that is past the limit, whose places might not fit 32 bits.
+-- How many rows there are in so many numbers; none for a message that is past the limit, whose places might not fit 32
+-- bits.
 unfoldable pub rowsIn : ℕ → ℕ → ℕ
 rowsIn bytes numbers = cond (leb bytes limit) (numbers / rowSize) 0
 

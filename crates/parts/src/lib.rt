@@ -63,7 +63,8 @@ fn keep(kept: &mut [u32], many: usize, k: usize, i: usize, base: usize, f: Field
     }
 }
 
-// How many rows are kept of a part of so many bytes that begins at place `base`, where there is room for so many numbers.
+// How many rows are kept of a part of so many bytes that begins at place `base`, where there is room for so many
+// numbers.
 fn rows(base: usize, bytes: usize, numbers: usize) -> usize
     ensures { λ r. ⌜ r ≡ rowsIn (base + bytes) numbers ⌝ }
 {

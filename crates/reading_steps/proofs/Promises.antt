@@ -1,5 +1,5 @@
--- Request 10 holds of the definitions: every step has two bytes of the payload (SizeLaws), a field with more than one mark
--- seven more, and a message whose one field is all marks takes as many steps as its length allows (SlowestLaws).
+-- Request 10 holds of the definitions: every step has two bytes of the payload (SizeLaws), a field with more than one
+-- mark seven more, and a message whose one field is all marks takes as many steps as its length allows (SlowestLaws).
 use Prim.Native.Nat.{ℕ, _+_, _-_, _*_, _/_, _%_, _≤_, _<_}
 use mathlib.Core.Path.{_≡_, refl, sym, _∙_, subst}
 use mathlib.Core.Bool.{Bool, true, false, cond}

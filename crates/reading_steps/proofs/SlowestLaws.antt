@@ -1,5 +1,5 @@
--- The slowest message of its length: short ids, and one field of code 31 with no rows, whose marks of two bytes fill it.
--- Where the length is odd the number of fields has two bytes.
+-- The slowest message of its length: short ids, and one field of code 31 with no rows, whose marks of two bytes fill
+-- it. Where the length is odd the number of fields has two bytes.
 use Prim.Native.Nat.{ℕ, zero, suc, _+_, _*_, _/_, _%_, _<_}
 use mathlib.Core.Path.{_≡_, refl, ap, sym, _∙_}
 use mathlib.Core.Bool.{Bool, true, false, false≢true}

@@ -11,7 +11,8 @@ use Rattle.sim0mq.specs.Message.{limit, Lent, noTable, table, reading, t
 use Rattle.sim0mq.specs.Blank.{blanking, outputAfter}
 use Rattle.sim0mq.specs.Allowed.{HeaderParts, headerBytes, IsHeader}
 
--- The numbers that 01 and 02 (19, Ticket 2) list for judging a message; and those for reading, with 14 only where a table is lent.
+-- The numbers that 01 and 02 (19, Ticket 2) list for judging a message; and those for reading, with 14 only where a
+-- table is lent.
 abbrev pub judgingNumbers : List ℕ
 judgingNumbers = 1 ∷ 2 ∷ 3 ∷ 4 ∷ 5 ∷ 6 ∷ 7 ∷ 8 ∷ 9 ∷ 10 ∷ 11 ∷ 12 ∷ 13 ∷ 19 ∷ []
 

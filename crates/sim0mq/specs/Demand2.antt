@@ -24,8 +24,8 @@ Accepted lent s = (m : Reading) × (reading lent s ≡ fine m)
 abbrev pub Accepts-what-is-allowed : Type 0
 Accepts-what-is-allowed = (lent : Lent) (s : List ℕ) → Room lent s → Accepted lent s ↔ Allowed limit s
 
--- The table numbers of fields that begin at `at`, read off their parts: code, place, first value byte, value bytes, marks, and the values that its counts ask for.
--- Each field begins where the one before ends.
+-- The table numbers of fields that begin at `at`, read off their parts: code, place, first value byte, value bytes,
+-- marks, and the values that its counts ask for. Each field begins where the one before ends.
 unfoldable pub cutRows : ℕ → List FieldParts → List ℕ
 cutRows at [] = []
 cutRows at (f ∷ fs) =

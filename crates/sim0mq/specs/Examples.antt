@@ -50,9 +50,10 @@ abbrev pub blankOutcome : Answer (List ℕ) → Outcome
 blankOutcome (fine c) = copy c
 blankOutcome (refused k p) = refusal k p
 
+-- What is lent is long enough for every message: a table for 256 fields (02, Ticket 4), and as many bytes as one has.
 unfoldable pub outcome : Deed → Outcome
 outcome (read s) = readOutcome (reading (table 1536) s)
-outcome (blank s) = blankOutcome (blanking 1280 s)
+outcome (blank s) = blankOutcome (blanking limit s)
 
 pub record Example : Type 0 where
   pub deed : Deed

@@ -19,7 +19,8 @@ lastRow =
 abbrev pub perRow : List ℕ
 perRow = 5 ∷ 11 ∷ 16 ∷ 19 ∷ 25 ∷ 28 ∷ []
 
--- The currency codes of 000, Appendix A, 100, in its own order, ten to a line; a line names the first and the last of its currencies.
+-- The currency codes of 000, Appendix A, 100, in its own order, ten to a line; a line names the first and the last of
+-- its currencies.
 abbrev pub currencyRow : List ℕ
 currencyRow =
     784 ∷ 971 ∷ 8 ∷ 51 ∷ 532 ∷ 973 ∷ 32 ∷ 36 ∷ 533 ∷ 944  -- AED to AZN
@@ -66,7 +67,8 @@ currencyTaken c = among c currencyRow
 unfoldable pub displayTaken : ℕ → ℕ → Bool
 displayTaken t d = leb d (getD lastRow t 0)
 
--- Each item of a mark is there (1) before it is judged (11; 19, a currency; 12, a display code); the answer is the place after it (01, the order in a field).
+-- Each item of a mark is there (1) before it is judged (11; 19, a currency; 12, a display code); the answer is the
+-- place after it (01, the order in a field).
 unfoldable pub currency : List ℕ → ℕ → Answer ℕ
 currency s at = do
   need s at 2

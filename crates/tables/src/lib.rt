@@ -1,5 +1,6 @@
 // The rows of the format's tables (specs Codes and Mark of sim0mq). Those of field codes are written as code, since a
-// constant array is laid out anew at each lookup; those of display codes are rows, to be held against the manual's page.
+// constant array is laid out anew at each lookup; those of display codes are rows, to be held against the manual's
+// page.
 ghost use mathlib.Core.Path.{_≡_};
 ghost use Prim.Native.Nat.{_≤_};
 ghost use lib.ListN.{getD};

@@ -78,42 +78,45 @@ wide32-requires-2 c κs = search needs
 sub-renew : tie.Need-sub-renew Inv-loop μ-loop
 unfolding rowSize
 sub-renew c =
-    let stands = left-stands _ _ _ _ _ _ _ (c .before .before .before .before .before .loop .inv .0) (c .before .before .before .before .loop-test .taken) _ _ (c .before .before .wide32 .ensures .0) (c .wide322 .ensures .0) in
-    let before = stands .0 in
-    let end = stands .1 in
-    omega arith
+    let inv = c .before .before .before .before .before .loop .inv .0 in
+    let turn = c .before .before .before .before .loop-test .taken in
+    let stands = left-stands _ _ _ _ _ _ _ inv turn _ _ (c .before .before .wide32 .ensures .0) (c .wide322 .ensures .0) in
+    omega (arith, stands .0, stands .1)
 
 part-renew-start : tie.Need-part-renew-start Inv-loop μ-loop
 unfolding rowSize
 part-renew-start c =
-    let stands = left-stands _ _ _ _ _ _ _ (c .before .before .before .before .before .loop .inv .0) (c .before .before .before .before .loop-test .taken) _ _ (c .before .before .wide32 .ensures .0) (c .wide322 .ensures .0) in
-    let before = stands .0 in
-    let end = stands .1 in
-    omega arith
+    let inv = c .before .before .before .before .before .loop .inv .0 in
+    let turn = c .before .before .before .before .loop-test .taken in
+    let stands = left-stands _ _ _ _ _ _ _ inv turn _ _ (c .before .before .wide32 .ensures .0) (c .wide322 .ensures .0) in
+    omega (arith, stands .0, stands .1)
 
 part-renew-end : tie.Need-part-renew-end Inv-loop μ-loop
 unfolding rowSize
 part-renew-end c =
-    let stands = left-stands _ _ _ _ _ _ _ (c .before .before .before .before .before .loop .inv .0) (c .before .before .before .before .loop-test .taken) _ _ (c .before .before .wide32 .ensures .0) (c .wide322 .ensures .0) in
-    let before = stands .0 in
-    let end = stands .1 in
-    omega arith
+    let inv = c .before .before .before .before .before .loop .inv .0 in
+    let turn = c .before .before .before .before .loop-test .taken in
+    let stands = left-stands _ _ _ _ _ _ _ inv turn _ _ (c .before .before .wide32 .ensures .0) (c .wide322 .ensures .0) in
+    omega (arith, stands .0, stands .1)
 
 renew-requires : tie.Need-renew-requires Inv-loop μ-loop
 unfolding rowSize
 renew-requires c κs =
     let inv = c .before .before .before .before .before .before .before .loop .inv .0 in
-    let stands = left-stands _ _ _ _ _ _ _ inv (c .before .before .before .before .before .before .loop-test .taken) _ _ (c .before .before .before .before .wide32 .ensures .0) (c .before .before .wide322 .ensures .0) in
-    let before = stands .0 in
-    let end = stands .1 in
-    let room = inv .room in
-    simp (length-take, length-drop) (omega arith)
+    let turn = c .before .before .before .before .before .before .loop-test .taken in
+    let first = c .before .before .before .before .wide32 .ensures .0 in
+    let size = c .before .before .wide322 .ensures .0 in
+    let stands = left-stands _ _ _ _ _ _ _ inv turn _ _ first size in
+    simp (length-take, length-drop) (omega (arith, stands .0, stands .1, inv .room))
 
 add-at : tie.Need-add-at Inv-loop μ-loop
 unfolding rowSize
 add-at c =
-    let end = left-stands _ _ _ _ _ _ _ (c .before .before .before .before .before .before .before .before .before .before .loop .inv .0) (c .before .before .before .before .before .before .before .before .before .loop-test .taken) _ _ (c .before .before .before .before .before .before .before .wide32 .ensures .0) (c .before .before .before .before .before .wide322 .ensures .0) .1 in
-    omega arith
+    let inv = c .before .before .before .before .before .before .before .before .before .before .loop .inv .0 in
+    let turn = c .before .before .before .before .before .before .before .before .before .loop-test .taken in
+    let first = c .before .before .before .before .before .before .before .wide32 .ensures .0 in
+    let size = c .before .before .before .before .before .wide322 .ensures .0 in
+    omega (arith, left-stands _ _ _ _ _ _ _ inv turn _ _ first size .1)
 
 add-k : tie.Need-add-k Inv-loop μ-loop
 add-k c = search needs
@@ -124,10 +127,12 @@ loop-less c = search needs
 loop-again : tie.Need-loop-again Inv-loop μ-loop
 unfolding rowSize
 loop-again c =
+    let inv = c .before .before .before .before .before .before .before .before .before .before .loop .inv in
+    let turn = c .before .before .before .before .before .before .before .before .before .loop-test .taken in
     let first = c .before .before .before .before .before .before .before .wide32 .ensures .0 in
     let size = c .before .before .before .before .before .wide322 .ensures .0 in
-    let inv = c .before .before .before .before .before .before .before .before .before .before .loop .inv in
-    (left-renewed _ _ _ _ _ _ _ (inv .0) (c .before .before .before .before .before .before .before .before .before .loop-test .taken) _ _ (c .before .before .renew .last .1 .0) first size (c .before .before .renew .ensures) (omega arith), omega arith)
+    let renewed = c .before .before .renew in
+    (left-renewed _ _ _ _ _ _ _ (inv .0) turn _ _ (renewed .last .1 .0) first size (renewed .ensures) (omega arith), omega arith)
 
 same-length : tie.Need-same-length Inv-loop μ-loop
 same-length c = search needs

@@ -1,4 +1,5 @@
--- Where there is room, the one byte is stored, or the eight, or each turn stores one more: the bytes cleared so far are zero, and the others are as they were.
+-- Where there is room, the one byte is stored, or the eight, or each turn stores one more: the bytes cleared so far are
+-- zero, and the others are as they were.
 use borrow.Author.Needs.{needs}
 use native.Mathlib.Omega.{arith}
 use Prim.Native.Nat.{ℕ, _+_, _-_, _<_, _≤_}

@@ -4,7 +4,8 @@ use native.Mathlib.Omega.{arith}
 use borrow.Author.Needs.{needs}
 use borrow.Author.Tests.{not-true, not-false, le-leb, lt-leb}
 use mathlib.Core.Path.{sym, _∙_, subst}
-use Rattle.marks.proofs.MarkCases.{currency-told, per-known, mark-between, mark-above, roomy-plain, roomy-plain-over, roomy-currency-over, roomy-money, roomy-per, roomy-per-over}
+use Rattle.marks.proofs.MarkCases.{currency-told, per-known, mark-between, mark-above}
+use Rattle.marks.proofs.MarkCases.{roomy-plain, roomy-plain-over, roomy-currency-over, roomy-money, roomy-per, roomy-per-over}
 use Rattle.marks.proofs.roomy.Statement.{statement}
 use Rattle.marks.proofs.roomy.Tie as tie
 
@@ -28,7 +29,8 @@ add-t16 c = search needs
 
 returns : tie.Need-returns
 returns c =
-    sym (roomy-plain _ _ _ _ (omega arith) (c .before .before .before .before .wide .ensures .0) (omega arith) (le-leb _ _ (c .if2 .taken)))
+    let unit = c .before .before .before .before .wide .ensures .0 in
+    sym (roomy-plain _ _ _ _ (omega arith) unit (omega arith) (le-leb _ _ (c .if2 .taken)))
 
 add-refuse : tie.Need-add-refuse
 add-refuse c = search needs
@@ -38,20 +40,24 @@ refuse-requires c κs = search needs
 
 returns-2 : tie.Need-returns-2
 returns-2 c =
-    c .refuse .ensures
-    ∙ sym (roomy-plain-over _ _ _ _ (omega arith) (c .before .before .before .before .before .wide .ensures .0) (omega arith) (lt-leb _ _ (c .before .if2 .left)))
+    let unit = c .before .before .before .before .before .wide .ensures .0 in
+    c .refuse .ensures ∙ sym (roomy-plain-over _ _ _ _ (omega arith) unit (omega arith) (lt-leb _ _ (c .before .if2 .left)))
 
 refuse-requires-2 : tie.Need-refuse-requires-2
 refuse-requires-2 c κs = search needs
 
 returns-3 : tie.Need-returns-3
-returns-3 c = c .refuse2 .ensures ∙ sym (mark-between _ _ _ (c .before .before .before .wide .result) (omega arith) (c .before .before .before .wide .ensures .0) (omega arith) (omega arith))
+returns-3 c =
+    let unit = c .before .before .before .wide in
+    c .refuse2 .ensures ∙ sym (mark-between _ _ _ (unit .result) (omega arith) (unit .ensures .0) (omega arith) (omega arith))
 
 refuse-requires-3 : tie.Need-refuse-requires-3
 refuse-requires-3 c κs = search needs
 
 returns-4 : tie.Need-returns-4
-returns-4 c = c .refuse3 .ensures ∙ sym (mark-above _ _ _ (c .before .before .before .before .wide .result) (omega arith) (c .before .before .before .before .wide .ensures .0) (omega arith))
+returns-4 c =
+    let unit = c .before .before .before .before .wide in
+    c .refuse3 .ensures ∙ sym (mark-above _ _ _ (unit .result) (omega arith) (unit .ensures .0) (omega arith))
 
 add-number : tie.Need-add-number
 add-number c = search needs
@@ -70,19 +76,23 @@ refuse-requires-4 c κs = search needs
 
 returns-5 : tie.Need-returns-5
 returns-5 c =
+    let unit = c .before .before .before .before .before .before .before .wide in
+    let code = c .before .before .before .number .ensures .0 in
+    let judged = c .before .before .currency-taken .ensures in
+    let unlisted = currency-told _ _ _ _ _ (omega arith) code judged (not-true _ (c .before .if5 .taken)) in
     c .refuse4 .ensures
-    ∙ sym
-    (roomy-currency-over _ _ _ (c .before .before .before .before .before .before .before .wide .result) (omega arith) (c .before .before .before .before .before .before .before .wide .ensures .0) (omega arith) (omega arith)
-    (currency-told _ _ _ _ _ (omega arith) (c .before .before .before .number .ensures .0) (c .before .before .currency-taken .ensures) (not-true _ (c .before .if5 .taken))))
+    ∙ sym (roomy-currency-over _ _ _ (unit .result) (omega arith) (unit .ensures .0) (omega arith) (omega arith) unlisted)
 
 add-t21 : tie.Need-add-t21
 add-t21 c = search needs
 
 returns-6 : tie.Need-returns-6
 returns-6 c =
-    sym
-    (roomy-money _ _ _ (c .before .before .before .before .before .before .before .wide .result) (omega arith) (c .before .before .before .before .before .before .before .wide .ensures .0) (c .if6 .taken)
-    (currency-told _ _ _ _ _ (omega arith) (c .before .before .before .number .ensures .0) (c .before .before .currency-taken .ensures) (not-false _ (c .before .if5 .left))))
+    let unit = c .before .before .before .before .before .before .before .wide in
+    let code = c .before .before .before .number .ensures .0 in
+    let judged = c .before .before .currency-taken .ensures in
+    let listed = currency-told _ _ _ _ _ (omega arith) code judged (not-false _ (c .before .if5 .left)) in
+    sym (roomy-money _ _ _ (unit .result) (omega arith) (unit .ensures .0) (c .if6 .taken) listed)
 
 sub-per : tie.Need-sub-per
 sub-per c = search needs
@@ -97,16 +107,22 @@ shared-slice-read-if7 : tie.Need-shared-slice-read-if7
 shared-slice-read-if7 c = search needs
 
 element-copy-out-if7 : tie.Need-element-copy-out-if7
-element-copy-out-if7 c = subst (λ (t : ℕ). t < 29) (sym (c .before .per .ensures)) (per-known (c .before .before .before .before .before .before .before .before .before .wide .result - 101))
+element-copy-out-if7 c =
+    let unit = c .before .before .before .before .before .before .before .before .before .wide .result in
+    subst (λ (t : ℕ). t < 29) (sym (c .before .per .ensures)) (per-known (unit - 101))
 
 add-t26 : tie.Need-add-t26
 add-t26 c = search needs
 
 returns-7 : tie.Need-returns-7
 returns-7 c =
-    sym
-    (roomy-per _ _ _ (c .before .before .before .before .before .before .before .before .before .before .before .wide .result) (omega arith) (c .before .before .before .before .before .before .before .before .before .before .before .wide .ensures .0) _ (omega arith) (omega arith) (c .before .before .before .per .ensures)
-    (currency-told _ _ _ _ _ (omega arith) (c .before .before .before .before .before .before .before .number .ensures .0) (c .before .before .before .before .before .before .currency-taken .ensures) (not-false _ (c .before .before .before .before .before .if5 .left))) (le-leb _ _ (c .if7 .taken)))
+    let unit = c .before .before .before .before .before .before .before .before .before .before .before .wide in
+    let per = c .before .before .before .per .ensures in
+    let code = c .before .before .before .before .before .before .before .number .ensures .0 in
+    let judged = c .before .before .before .before .before .before .currency-taken .ensures in
+    let listed = currency-told _ _ _ _ _ (omega arith) code judged (not-false _ (c .before .before .before .before .before .if5 .left)) in
+    let shown = le-leb _ _ (c .if7 .taken) in
+    sym (roomy-per _ _ _ (unit .result) (omega arith) (unit .ensures .0) _ (omega arith) (omega arith) per listed shown)
 
 add-refuse-3 : tie.Need-add-refuse-3
 add-refuse-3 c = search needs
@@ -116,10 +132,14 @@ refuse-requires-5 c κs = search needs
 
 returns-8 : tie.Need-returns-8
 returns-8 c =
+    let unit = c .before .before .before .before .before .before .before .before .before .before .before .before .wide in
+    let per = c .before .before .before .before .per .ensures in
+    let code = c .before .before .before .before .before .before .before .before .number .ensures .0 in
+    let judged = c .before .before .before .before .before .before .before .currency-taken .ensures in
+    let listed = currency-told _ _ _ _ _ (omega arith) code judged (not-false _ (c .before .before .before .before .before .before .if5 .left)) in
+    let over = lt-leb _ _ (c .before .if7 .left) in
     c .refuse5 .ensures
-    ∙ sym
-    (roomy-per-over _ _ _ (c .before .before .before .before .before .before .before .before .before .before .before .before .wide .result) (omega arith) (c .before .before .before .before .before .before .before .before .before .before .before .before .wide .ensures .0) _ (omega arith) (omega arith) (c .before .before .before .before .per .ensures)
-    (currency-told _ _ _ _ _ (omega arith) (c .before .before .before .before .before .before .before .before .number .ensures .0) (c .before .before .before .before .before .before .before .currency-taken .ensures) (not-false _ (c .before .before .before .before .before .before .if5 .left))) (lt-leb _ _ (c .before .if7 .left)))
+    ∙ sym (roomy-per-over _ _ _ (unit .result) (omega arith) (unit .ensures .0) _ (omega arith) (omega arith) per listed over)
 
 pub roomy-spec : {M : Type 1} → statement M
 roomy-spec =

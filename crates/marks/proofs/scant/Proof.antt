@@ -27,7 +27,9 @@ refuse-requires : tie.Need-refuse-requires
 refuse-requires c κs = search needs
 
 returns-2 : tie.Need-returns-2
-returns-2 c = c .refuse .ensures ∙ sym (mark-between _ _ _ (c .before .before .before .wide .result) (omega arith) (c .before .before .before .wide .ensures .0) (omega arith) (omega arith))
+returns-2 c =
+    let unit = c .before .before .before .wide in
+    c .refuse .ensures ∙ sym (mark-between _ _ _ (unit .result) (omega arith) (unit .ensures .0) (omega arith) (omega arith))
 
 add-currency : tie.Need-add-currency
 add-currency c = search needs
@@ -36,13 +38,17 @@ currency-requires : tie.Need-currency-requires
 currency-requires c κs = search needs
 
 returns-3 : tie.Need-returns-3
-returns-3 c = c .currency .ensures ∙ sym (mark-money _ _ _ (c .before .before .before .before .wide .result) (omega arith) (c .before .before .before .before .wide .ensures .0) (c .before .if3 .taken))
+returns-3 c =
+    let unit = c .before .before .before .before .wide in
+    c .currency .ensures ∙ sym (mark-money _ _ _ (unit .result) (omega arith) (unit .ensures .0) (c .before .if3 .taken))
 
 refuse-requires-2 : tie.Need-refuse-requires-2
 refuse-requires-2 c κs = search needs
 
 returns-4 : tie.Need-returns-4
-returns-4 c = c .refuse2 .ensures ∙ sym (mark-above _ _ _ (c .before .before .before .before .before .wide .result) (omega arith) (c .before .before .before .before .before .wide .ensures .0) (omega arith))
+returns-4 c =
+    let unit = c .before .before .before .before .before .wide in
+    c .refuse2 .ensures ∙ sym (mark-above _ _ _ (unit .result) (omega arith) (unit .ensures .0) (omega arith))
 
 add-currency-2 : tie.Need-add-currency-2
 add-currency-2 c = search needs
@@ -60,23 +66,26 @@ per-requires : tie.Need-per-requires
 per-requires c κs = search needs
 
 display-requires-2 : tie.Need-display-requires-2
-display-requires-2 c κs = subst (λ (t : ℕ). t < 29) (sym (c .per .ensures)) (per-known (c .before .before .before .before .before .before .before .before .before .wide .result - 101))
+display-requires-2 c κs =
+    let unit = c .before .before .before .before .before .before .before .before .before .wide .result in
+    subst (λ (t : ℕ). t < 29) (sym (c .per .ensures)) (per-known (unit - 101))
 
 enum-known-r : tie.Need-enum-known-r
 enum-known-r c = search needs
 
 returns-5 : tie.Need-returns-5
 returns-5 c =
+    let unit = c .before .before .before .before .before .before .before .before .before .before .wide in
+    let per = c .before .per .ensures in
+    let taken = sym (c .before .before .before .before .before .currency2 .ensures) ∙ ap judged (c .before .before .before .p .given .1) in
     c .display2 .ensures
-    ∙ sym
-    (mark-per-fine _ _ _ (c .before .before .before .before .before .before .before .before .before .before .wide .result) (omega arith) (c .before .before .before .before .before .before .before .before .before .before .wide .ensures .0) _ _ (omega arith) (omega arith) (c .before .per .ensures)
-    (sym (c .before .before .before .before .before .currency2 .ensures) ∙ ap judged (c .before .before .before .p .given .1)))
+    ∙ sym (mark-per-fine _ _ _ (unit .result) (omega arith) (unit .ensures .0) _ _ (omega arith) (omega arith) per taken)
 
 returns-6 : tie.Need-returns-6
 returns-6 c =
-    sym
-    (mark-per-stop _ _ _ (c .before .before .before .before .before .before .before .before .wide .result) (omega arith) (c .before .before .before .before .before .before .before .before .wide .ensures .0) _ _ (omega arith) (omega arith)
-    (sym (c .before .before .before .currency2 .ensures) ∙ ap judged (c .before .r .given .1)))
+    let unit = c .before .before .before .before .before .before .before .before .wide in
+    let stopped = sym (c .before .before .before .currency2 .ensures) ∙ ap judged (c .before .r .given .1) in
+    sym (mark-per-stop _ _ _ (unit .result) (omega arith) (unit .ensures .0) _ _ (omega arith) (omega arith) stopped)
 
 pub scant-spec : {M : Type 1} → statement M
 scant-spec =
