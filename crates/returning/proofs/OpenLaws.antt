@@ -20,7 +20,8 @@ use Rattle.scalars.specs.Bytes.{bigBytes, bitsOf}
 use Rattle.puts.specs.Placing.{numberText}
 use Rattle.opening.specs.Opening.{holds, headerWith, idsFrom, fitting, headerGiven}
 use Rattle.writing.specs.Writing.{Opening, countCode, headerText, opening}
-use Rattle.returning.proofs.NumberLaws.{numberParts, number-back, first-byte}
+use Rattle.puts.proofs.NumberLaws.{number-back, first-byte}
+use Rattle.returning.proofs.NumberLaws.{numberParts}
 use Rattle.returning.proofs.FrameLaws.{oneNumber, number-frame}
 use Rattle.returning.proofs.JoinLaws.{flat-append}
 use Rattle.returning.proofs.IdLaws.{ids-sound}

@@ -33,7 +33,8 @@ use Rattle.writing.specs.Writing.{Opening, countCode, headerText, Given, scalar
 use Rattle.returning.specs.History.{Point, Finished, bytesOf}
 use Rattle.returning.specs.Promises.{Held, framePlace, SaysHeader, ReadsBack}
 use Rattle.puts.proofs.PlaceLaws.{big-length}
-use Rattle.returning.proofs.NumberLaws.{number-read, signed-back, bits-held}
+use Rattle.puts.proofs.NumberLaws.{number-read}
+use Rattle.returning.proofs.NumberLaws.{signed-back, bits-held}
 use Rattle.returning.proofs.ScalarLaws.{scalar-back}
 use Rattle.returning.proofs.JoinLaws.{flat-same, four-long}
 use Rattle.returning.proofs.GivenLaws.{own-fields}

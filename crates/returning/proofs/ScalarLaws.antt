@@ -31,7 +31,8 @@ use Rattle.kinds.specs.declared.Scalar.the-variants.{Byte, Short, Int, Long, Fl
 use Rattle.encoding.specs.Scalars.{codeOf, scalarText, markTaken, writable}
 use Rattle.returning.specs.Promises.{InWidth, Held}
 use Rattle.puts.proofs.PlaceLaws.{big-length}
-use Rattle.returning.proofs.NumberLaws.{number-read, number-back, signed-back, bits-held, markedParts, marked-is, number-is}
+use Rattle.puts.proofs.NumberLaws.{number-read, number-back}
+use Rattle.returning.proofs.NumberLaws.{signed-back, bits-held, markedParts, marked-is, number-is}
 
 -- the strings of a scalar's marks: one or none
 abbrev scalarMarks : Scalar → List (List ℕ)
