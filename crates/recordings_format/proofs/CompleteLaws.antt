@@ -23,7 +23,7 @@ use Rattle.recordings_format.proofs.EditionLaws.{Row, listed-row}
 use Rattle.recordings_format.proofs.TextLaws.{entry-long, index-long, tail-long, recording-tail}
 
 entries-complete : (s : List ℕ) (p at end : ℕ) (e : Edition) (ns : List ℕ) → Each (λ n. n < 2 ^ (8 * e .lengthBytes)) ns
-    → Stands s p (indexText e at ns) → at + total ns ≡ end → end < 2 ^ (8 * 4) → entriesFrom s e (length ns) p at end ≡ fine ns
+    → Stands s p (indexText e at ns) → at + total ns ≡ end → end < 2 ^ (8 * 4) → entriesFrom s (e .lengthBytes) (length ns) p at end ≡ fine ns
 unfolding entriesFrom indexText total
 entries-complete s p at end e [] none st q h = simp (eq-eqb at end (omega arith))
 entries-complete s p at end e (n ∷ ns) (more k ks) st q h =

@@ -11,33 +11,33 @@ use borrow.Author.Tests.{leb-true, eqb-true}
 use Rattle.sim0mq.specs.Answer.{fine, big}
 use Rattle.sim0mq.proofs.Answers.{guarded, guarded-bind, bind-fine, fine-eq}
 use Rattle.dividing.specs.Run.{total}
-use Rattle.recordings_format.specs.Edition.{Edition, editionOf, entrySize, mostMessages, trailerSize}
+use Rattle.recordings_format.specs.Edition.{editionOf, entrySize, mostMessages, trailerSize}
 use Rattle.recordings_format.specs.Judge.{Trailer, trailerFrom, trailer, entriesFrom, Index, index}
 use Rattle.recordings_format.proofs.EditionLaws.{Row, found-row}
 
 -- the entries of an index
-module _ (s : List ℕ) (e : Edition) where
+module _ (s : List ℕ) (w : ℕ) where
   -- the first entry, and the others
   pub record First (n p at end : ℕ) (ns : List ℕ) : Type 0 where
     pub start : big s p 4 ≡ at
     pub others : List ℕ
-    pub all : big s (p + 4) (e .lengthBytes) ∷ others ≡ ns
-    pub rest : entriesFrom s e n (p + entrySize e) (at + big s (p + 4) (e .lengthBytes)) end ≡ fine others
+    pub all : big s (p + 4) w ∷ others ≡ ns
+    pub rest : entriesFrom s w n (p + (4 + w)) (at + big s (p + 4) w) end ≡ fine others
 
-  pub entries-first : (n p at end : ℕ) (ns : List ℕ) → entriesFrom s e (suc n) p at end ≡ fine ns → First n p at end ns
+  pub entries-first : (n p at end : ℕ) (ns : List ℕ) → entriesFrom s w (suc n) p at end ≡ fine ns → First n p at end ns
   unfolding entriesFrom
   entries-first n p at end ns q =
       let g = guarded-bind (eqb (big s p 4) at) _ _ _ q in
-      let size = big s (p + 4) (e .lengthBytes) in
-      let b = bind-fine (entriesFrom s e n (p + entrySize e) (at + size) end) _ (g .1) in
+      let size = big s (p + 4) w in
+      let b = bind-fine (entriesFrom s w n (p + (4 + w)) (at + size) end) _ (g .1) in
       record { start = eqb-true (big s p 4) at (g .0); others = b .0; all = fine-eq (b .2); rest = b .1 }
 
-  pub entries-none : (p at end : ℕ) (ns : List ℕ) → entriesFrom s e 0 p at end ≡ fine ns → (at ≡ end) × ([] ≡ ns)
+  pub entries-none : (p at end : ℕ) (ns : List ℕ) → entriesFrom s w 0 p at end ≡ fine ns → (at ≡ end) × ([] ≡ ns)
   unfolding entriesFrom
   entries-none p at end ns q = let g = guarded (eqb at end) _ _ _ q in (eqb-true at end (g .0), fine-eq (g .1))
 
   -- as many lengths as entries, and they reach the end
-  entries-many : (n p at end : ℕ) (ns : List ℕ) → entriesFrom s e n p at end ≡ fine ns
+  pub entries-many : (n p at end : ℕ) (ns : List ℕ) → entriesFrom s w n p at end ≡ fine ns
       → (length ns ≡ n) × (at + total ns ≡ end)
   unfolding total
   entries-many zero p at end ns q =
@@ -46,38 +46,38 @@ module _ (s : List ℕ) (e : Edition) where
       subst (λ (l : List ℕ). (length l ≡ 0) × (at + total l ≡ end)) (g .1) (refl, omega arith)
   entries-many (suc n) p at end ns q =
       let f = entries-first n p at end ns q in
-      let size = big s (p + 4) (e .lengthBytes) in
-      let r = entries-many n (p + entrySize e) (at + size) end (f .others) (f .rest) in
+      let size = big s (p + 4) w in
+      let r = entries-many n (p + (4 + w)) (at + size) end (f .others) (f .rest) in
       let many = r .0 in
       let sum = r .1 in
       subst (λ (l : List ℕ). (length l ≡ suc n) × (at + total l ≡ end)) (f .all) (omega arith, omega arith)
 
   -- entry k states its start and its length
   pub record Nth (p at : ℕ) (ns : List ℕ) (k : ℕ) : Type 0 where
-    pub start : big s (p + entrySize e * k) 4 ≡ at + total (take k ns)
-    pub size : big s (p + entrySize e * k + 4) (e .lengthBytes) ≡ getD ns k 0
+    pub start : big s (p + (4 + w) * k) 4 ≡ at + total (take k ns)
+    pub size : big s (p + (4 + w) * k + 4) w ≡ getD ns k 0
 
-  pub entries-nth : (n p at end : ℕ) (ns : List ℕ) (k : ℕ) → entriesFrom s e n p at end ≡ fine ns → k < n → Nth p at ns k
+  pub entries-nth : (n p at end : ℕ) (ns : List ℕ) (k : ℕ) → entriesFrom s w n p at end ≡ fine ns → k < n → Nth p at ns k
   unfolding total
   entries-nth zero p at end ns k q h = absurd (not-suc-le-zero h)
   entries-nth (suc n) p at end ns zero q h =
       let f = entries-first n p at end ns q in
-      let here : p + entrySize e * 0 ≡ p = ap (λ (x : ℕ). p + x) (mul-zero (entrySize e)) ∙ add-zero p in
+      let here : p + (4 + w) * 0 ≡ p = ap (λ (x : ℕ). p + x) (mul-zero ((4 + w))) ∙ add-zero p in
       subst (λ (l : List ℕ). Nth p at l 0) (f .all)
       (record {
         start = ap (λ (x : ℕ). big s x 4) here ∙ f .start ∙ sym (add-zero at);
-        size = ap (λ (x : ℕ). big s (x + 4) (e .lengthBytes)) here;
+        size = ap (λ (x : ℕ). big s (x + 4) w) here;
       })
   entries-nth (suc n) p at end ns (suc k) q h =
       let f = entries-first n p at end ns q in
-      let size = big s (p + 4) (e .lengthBytes) in
-      let r = entries-nth n (p + entrySize e) (at + size) end (f .others) k (f .rest) (omega arith) in
-      let there : p + entrySize e * suc k ≡ p + entrySize e + entrySize e * k = omega (arith, mul-suc (entrySize e) k) in
+      let size = big s (p + 4) w in
+      let r = entries-nth n (p + (4 + w)) (at + size) end (f .others) k (f .rest) (omega arith) in
+      let there : p + (4 + w) * suc k ≡ p + (4 + w) + (4 + w) * k = omega (arith, mul-suc ((4 + w)) k) in
       let sum : at + size + total (take k (f .others)) ≡ at + (size + total (take k (f .others))) = omega arith in
       subst (λ (l : List ℕ). Nth p at l (suc k)) (f .all)
       (record {
         start = ap (λ (x : ℕ). big s x 4) there ∙ r .start ∙ sum;
-        size = ap (λ (x : ℕ). big s (x + 4) (e .lengthBytes)) there ∙ r .size;
+        size = ap (λ (x : ℕ). big s (x + 4) w) there ∙ r .size;
       })
 
 -- message k and those before it are no more than all
@@ -88,12 +88,12 @@ total-nth (n ∷ ns) zero h = omega arith
 total-nth (n ∷ ns) (suc k) h = let e = total-nth ns k (omega arith) in omega arith
 
 -- a trailer that is right
-record TrailerSays (s : List ℕ) (t : Trailer) : Type 0 where
+pub record TrailerSays (s : List ℕ) (t : Trailer) : Type 0 where
   pub row : Row (t .edition)
   pub few : t .entries ≤ mostMessages
   pub fills : t .place + entrySize (t .edition) * t .entries + trailerSize ≡ length s
 
-trailer-says : (s : List ℕ) (t : Trailer) → trailer s ≡ fine t → TrailerSays s t
+pub trailer-says : (s : List ℕ) (t : Trailer) → trailer s ≡ fine t → TrailerSays s t
 unfolding trailer trailerFrom
 trailer-says s t q =
     let at = length s - trailerSize in
@@ -114,7 +114,7 @@ pub record Indexed (s : List ℕ) (i : Index) : Type 0 where
   pub row : Row (i .edition)
   pub few : length (i .lengths) ≤ mostMessages
   pub fills : total (i .lengths) + entrySize (i .edition) * length (i .lengths) + trailerSize ≡ length s
-  pub states : entriesFrom s (i .edition) (length (i .lengths)) (total (i .lengths)) 0 (total (i .lengths)) ≡ fine (i .lengths)
+  pub states : entriesFrom s (i .edition .lengthBytes) (length (i .lengths)) (total (i .lengths)) 0 (total (i .lengths)) ≡ fine (i .lengths)
 
 pub index-says : (s : List ℕ) (i : Index) → index s ≡ fine i → Indexed s i
 unfolding index
@@ -123,9 +123,9 @@ index-says s i q =
     let t = a .0 in
     let e = t .edition in
     let f = trailer-says s t (a .1) in
-    let c = bind-fine (entriesFrom s e (t .entries) (t .place) 0 (t .place)) _ (a .2) in
+    let c = bind-fine (entriesFrom s (e .lengthBytes) (t .entries) (t .place) 0 (t .place)) _ (a .2) in
     let ns = c .0 in
-    let m = entries-many s e (t .entries) (t .place) 0 (t .place) ns (c .1) in
+    let m = entries-many s (e .lengthBytes) (t .entries) (t .place) 0 (t .place) ns (c .1) in
     let many : t .entries ≡ length ns = sym (m .0) in
     let place : t .place ≡ total ns = sym (m .1) ∙ zero-add (total ns) in
     let few = f .few in
@@ -134,5 +134,5 @@ index-says s i q =
       row = f .row;
       few = omega arith;
       fills = sym (λ j. place j + entrySize e * many j + trailerSize) ∙ f .fills;
-      states = sym (λ j. entriesFrom s e (many j) (place j) 0 (place j)) ∙ c .1;
+      states = sym (λ j. entriesFrom s (e .lengthBytes) (many j) (place j) 0 (place j)) ∙ c .1;
     })

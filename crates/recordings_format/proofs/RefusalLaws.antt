@@ -2,12 +2,12 @@
 -- judged only once trailer and index are right, and then it lies in the recording.
 use Prim.Native.Nat.{ℕ, zero, suc, _+_, _*_, _≤_, zero-le}
 use mathlib.Core.Path.{_≡_, refl, ap, sym, _∙_, subst}
-use mathlib.Core.Bool.{Bool, true, false, cond, not, or-true, false≢true}
+use mathlib.Core.Bool.{Bool, true, false, cond, not, _||_, or-true, false≢true}
 use mathlib.Core.List.{List, [], _∷_}
 use native.Mathlib.Omega.{arith}
 use lib.ListN.{length, take, drop, getD, length-take, length-drop}
 use lib.Dec.{leb, ltb, eqb}
-use borrow.Author.Tests.{ltb-true}
+use borrow.Author.Tests.{eqb-true, ltb-true}
 use Rattle.sim0mq.specs.Answer.{Answer, fine, refused, _>>=_, _>>_, guard, partAt, big}
 use Rattle.sim0mq.specs.Codes.{among}
 use Rattle.sim0mq.specs.Message.{Lent, noTable, table, Reading, message}
@@ -74,14 +74,14 @@ module _ (numbers s : List ℕ) where
     unfolding trailer
     trailer-told = guard-told (leb trailerSize (length s)) 18 _ eighteen (λ long. numbers-told _ _ _ _)
 
-    entries-told : (e : Edition) (n p at end : ℕ) → Told numbers s (entriesFrom s e n p at end)
+    entries-told : (w : ℕ) (n p at end : ℕ) → Told numbers s (entriesFrom s w n p at end)
     unfolding entriesFrom
-    entries-told e zero p at end = guard-told (eqb at end) 18 _ eighteen (λ t. tt)
-    entries-told e (suc n) p at end =
+    entries-told w zero p at end = guard-told (eqb at end) 18 _ eighteen (λ t. tt)
+    entries-told w (suc n) p at end =
         bind-told (guard (eqb (big s p 4) at) 18 0) _ (start (eqb (big s p 4) at))
         (λ u is.
-        bind-told (entriesFrom s e n (p + entrySize e) (at + big s (p + 4) (e .lengthBytes)) end) _
-        (entries-told e n (p + entrySize e) (at + big s (p + 4) (e .lengthBytes)) end) (λ ns found. tt))
+        bind-told (entriesFrom s w n (p + (4 + w)) (at + big s (p + 4) w) end) _
+        (entries-told w n (p + (4 + w)) (at + big s (p + 4) w) end) (λ ns found. tt))
       where
         start : (t : Bool) → Told numbers s (guard t 18 0)
         start true = tt
@@ -92,8 +92,8 @@ module _ (numbers s : List ℕ) where
     index-told =
         bind-told (trailer s) _ trailer-told
         (λ t is.
-        bind-told (entriesFrom s (t .edition) (t .entries) (t .place) 0 (t .place)) _
-        (entries-told (t .edition) (t .entries) (t .place) 0 (t .place)) (λ ns found. tt))
+        bind-told (entriesFrom s (t .edition .lengthBytes) (t .entries) (t .place) 0 (t .place)) _
+        (entries-told (t .edition .lengthBytes) (t .entries) (t .place) 0 (t .place)) (λ ns found. tt))
 
   -- a message that lies in the recording is refused by its own number, at a place in it
   module _ (judged : (k : ℕ) → among k judgingNumbers ≡ true → among k numbers ≡ true) where
@@ -169,3 +169,17 @@ stretch-not-sixteen most s at n p q =
     subst (λ (a : Answer Reading). Held judgingNumbers (length (take n (drop at s))) a) (r .1)
     (message-placed most noTable (take n (drop at s))) in
     message-number 16 (h .0) refl
+
+-- entries that do not tile are refused by 18 at 0
+pub entries-eighteen : (s : List ℕ) (w n p at end number place : ℕ) → entriesFrom s w n p at end ≡ refused number place
+    → (number ≡ 18) × (place ≡ 0)
+unfolding among
+entries-eighteen s w n p at end number place q =
+    let h : IsRefusal (18 ∷ []) s number place
+    = subst (λ (a : Answer (List ℕ)). Told (18 ∷ []) s a) q (entries-told (18 ∷ []) s refl w n p at end) in
+    let is : number ≡ 18 = eqb-true number 18 (only (eqb number 18) (h .numbered)) in
+    (is, h .own (ap (λ (k : ℕ). among k ownNumbers) is))
+  where
+    only : (b : Bool) → (b || false) ≡ true → b ≡ true
+    only true e = refl
+    only false e = e

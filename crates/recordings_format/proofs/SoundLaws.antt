@@ -55,7 +55,7 @@ module _ (s : List ℕ) (bytes : Bytes s) where
   number-stands at n h = subst (λ (l : List ℕ). Stands s at l) (sym (bytes-back s bytes n at h)) (taken-stands s at n h .1)
 
   entries-sound : (e : Edition) (n p at end : ℕ) (ns : List ℕ) → p + entrySize e * n ≤ length s
-      → entriesFrom s e n p at end ≡ fine ns
+      → entriesFrom s (e .lengthBytes) n p at end ≡ fine ns
       → (length ns ≡ n)
       × (at + total ns ≡ end)
       × Each (λ k. k < 2 ^ (8 * e .lengthBytes)) ns
@@ -73,7 +73,7 @@ module _ (s : List ℕ) (bytes : Bytes s) where
       let size = big s (p + 4) (e .lengthBytes) in
       let g = guarded-bind (eqb (big s p 4) at) _ _ _ q in
       let start : big s p 4 ≡ at = eqb-true (big s p 4) at (g .0) in
-      let b = bind-fine (entriesFrom s e n (p + entrySize e) (at + size) end) _ (g .1) in
+      let b = bind-fine (entriesFrom s (e .lengthBytes) n (p + entrySize e) (at + size) end) _ (g .1) in
       let fits : p + entrySize e + entrySize e * n ≤ length s = omega (arith, mul-suc (entrySize e) n) in
       let others = entries-sound e n (p + entrySize e) (at + size) end (b .0) fits (b .1) in
       let many = others .0 in
@@ -152,7 +152,7 @@ module _ (s : List ℕ) (bytes : Bytes s) where
       let fills = f .fills in
       let few = f .few in
       let fits = f .fits in
-      let c = bind-fine (entriesFrom s e (t .entries) (t .place) 0 (t .place)) _ (a .2) in
+      let c = bind-fine (entriesFrom s (e .lengthBytes) (t .entries) (t .place) 0 (t .place)) _ (a .2) in
       let ns = c .0 in
       let g = entries-sound e (t .entries) (t .place) 0 (t .place) ns (omega arith) (c .1) in
       let many = g .0 in

@@ -35,16 +35,16 @@ trailer s = do
   guard (leb trailerSize (length s)) 18 0
   trailerAt s (length s - trailerSize)
 
--- The n entries from place p on tile the bytes from `at` to `end`: each states as its start where the one before ends.
--- The answer is the lengths.
-unfoldable pub entriesFrom : List ℕ → Edition → ℕ → ℕ → ℕ → ℕ → Answer (List ℕ)
-entriesFrom s e zero p at end = do
+-- The n entries from place p on, in which a length has w bytes, tile the bytes from `at` to `end`: each states as its
+-- start where the one before ends. The answer is the lengths.
+unfoldable pub entriesFrom : List ℕ → ℕ → ℕ → ℕ → ℕ → ℕ → Answer (List ℕ)
+entriesFrom s w zero p at end = do
   guard (eqb at end) 18 0
   fine []
-entriesFrom s e (suc n) p at end = do
+entriesFrom s w (suc n) p at end = do
   pass ← guard (eqb (big s p 4) at) 18 0
-  ns ← entriesFrom s e n (p + entrySize e) (at + big s (p + 4) (e .lengthBytes)) end
-  fine (big s (p + 4) (e .lengthBytes) ∷ ns)
+  ns ← entriesFrom s w n (p + (4 + w)) (at + big s (p + 4) w) end
+  fine (big s (p + 4) w ∷ ns)
 
 -- What the trailer and the index say: the edition, and the lengths of the messages, which begin at 0 and stand end to
 -- end.
@@ -55,7 +55,7 @@ pub record Index : Type 0 where
 unfoldable pub index : List ℕ → Answer Index
 index s = do
   t ← trailer s
-  ns ← entriesFrom s (t .edition) (t .entries) (t .place) 0 (t .place)
+  ns ← entriesFrom s (t .edition .lengthBytes) (t .entries) (t .place) 0 (t .place)
   fine (record { edition = t .edition; lengths = ns })
 
 -- The message of n bytes that begins at `at` of the recording: its own refusals, with their place in the recording.

@@ -1,0 +1,4 @@
+pub mod StatedLaws
+pub mod StretchCases
+pub mod OpenCases
+pub mod StoreCases

@@ -1,0 +1,3 @@
+pub mod TrailerCases
+pub mod TileCases
+pub mod IndexCases
