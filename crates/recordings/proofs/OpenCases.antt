@@ -16,6 +16,7 @@ use Rattle.sim0mq.specs.declared.Refusal.{Refusal}
 use Rattle.sim0mq.proofs.Answers.{not-fine}
 use Rattle.dividing.specs.Run.{total}
 use Rattle.recordings_format.specs.Judge.{Index, index, stretch, stretchesFrom, placeSize, roomy, opening, places, placesAfter, placedIn, asking}
+use Rattle.recordings_format.proofs.IndexLaws.{total-more}
 use Rattle.recordings_format.proofs.Promises.{table-is-lent}
 use Rattle.recordings_index.specs.Index.{trailedAs, summed}
 use Rattle.recordings_index.specs.declared.Trailer.{Trailer}
@@ -49,13 +50,6 @@ module _ (s : List ℕ) {w : Trailed} (says : trailedAs w ≡ summed (index s)) 
   pub ask-wrong : (k : ℕ) → refused 18 0 ≡ asking s k
   unfolding asking
   ask-wrong k = sym (simp no-index)
-
--- one message more
-total-more : (ns : List ℕ) (k : ℕ) → k < length ns → total (take (suc k) ns) ≡ total (take k ns) + getD ns k 0
-unfolding total
-total-more [] k h = absurd (not-suc-le-zero h)
-total-more (n ∷ ns) zero h = omega arith
-total-more (n ∷ ns) (suc k) h = omega (arith, total-more ns k (omega arith))
 
 -- a message that was judged, and what is done with it then
 size-refused : {B : Type 0} (a : Answer Reading) (f : Reading → Answer B) (r : Refusal)

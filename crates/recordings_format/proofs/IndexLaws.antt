@@ -87,6 +87,13 @@ total-nth [] k h = absurd (not-suc-le-zero h)
 total-nth (n ∷ ns) zero h = omega arith
 total-nth (n ∷ ns) (suc k) h = let e = total-nth ns k (omega arith) in omega arith
 
+-- one message more
+pub total-more : (ns : List ℕ) (k : ℕ) → k < length ns → total (take (suc k) ns) ≡ total (take k ns) + getD ns k 0
+unfolding total
+total-more [] k h = absurd (not-suc-le-zero h)
+total-more (n ∷ ns) zero h = omega arith
+total-more (n ∷ ns) (suc k) h = omega (arith, total-more ns k (omega arith))
+
 -- a trailer that is right
 pub record TrailerSays (s : List ℕ) (t : Trailer) : Type 0 where
   pub row : Row (t .edition)

@@ -63,14 +63,14 @@ joined-long [] = refl
 joined-long (m ∷ ms) = length-append m (joined ms) ∙ ap (λ (k : ℕ). length m + k) (joined-long ms)
 
 -- lengths that an edition has, which fit the bytes of a length
-abbrev Short : Edition → List ℕ → Type 0
+abbrev pub Short : Edition → List ℕ → Type 0
 Short e ns = Each (λ n. n ≤ e .most) ns
 
 taken-lengths : (e : Edition) (ms : List (List ℕ)) → Each (Taken (e .most)) ms → Short e (map length ms)
 taken-lengths e [] none = none
 taken-lengths e (m ∷ ms) (more t ts) = more (taken-short (e .most) m t) (taken-lengths e ms ts)
 
-lengths-fit : (e : Edition) (ns : List ℕ) → Row e → Short e ns → Each (λ n. n < 2 ^ (8 * e .lengthBytes)) ns
+pub lengths-fit : (e : Edition) (ns : List ℕ) → Row e → Short e ns → Each (λ n. n < 2 ^ (8 * e .lengthBytes)) ns
 lengths-fit e [] r none = none
 lengths-fit e (n ∷ ns) r (more h hs) =
     let w = r .wide in
@@ -83,7 +83,7 @@ unfolding total
 total-bounded e [] none = omega arith
 total-bounded e (n ∷ ns) (more h hs) = omega (arith, total-bounded e ns hs, suc-mul (length ns) (e .most))
 
-places-fit : (e : Edition) (ns : List ℕ) → Row e → Short e ns → length ns ≤ mostMessages → total ns < 2 ^ (8 * 4)
+pub places-fit : (e : Edition) (ns : List ℕ) → Row e → Short e ns → length ns ≤ mostMessages → total ns < 2 ^ (8 * 4)
 places-fit e ns r h few =
     let p = r .placed in omega (arith, total-bounded e ns h, mul-le-mul-right (e .most) few)
 

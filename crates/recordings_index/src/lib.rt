@@ -5,11 +5,8 @@ ghost use Rattle.recordings_format.specs.Edition.{editionOf};
 ghost use Rattle.recordings_format.specs.Judge.{trailerFrom, trailer, index as indexOf};
 ghost use Rattle.recordings_index.specs.Index.{knownAs, trailedAs, summed, Trailing, tiled};
 use numbers::number;
-
-// The most messages that a recording has, and the bytes of its trailer.
-pub const MOST: usize = 4096;
-
-const TRAILER: usize = 10;
+use recordings_format::MOST;
+use recordings_format::TRAILER;
 
 // An edition: its number, the bytes of a length in its index, and the most bytes of a message.
 pub struct Edition {

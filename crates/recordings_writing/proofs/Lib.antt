@@ -1,0 +1,5 @@
+pub mod StateLaws
+pub mod CloseCases
+pub mod HistoryLaws
+pub mod RefusalLaws
+pub mod Promises

@@ -1,0 +1,10 @@
+-- The refusal, and the state as it was.
+use mathlib.Core.Path.{refl}
+use Rattle.recordings_writing.proofs.refused.Statement.{statement}
+use Rattle.recordings_writing.proofs.refused.Tie as tie
+
+returns : tie.Need-returns
+returns c = refl
+
+pub refused-spec : {M : Type 1} → statement M
+refused-spec = tie.close (tie.spec returns)

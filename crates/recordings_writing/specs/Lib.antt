@@ -1,0 +1,3 @@
+pub mod Recorder
+pub mod History
+pub mod Promises
