@@ -31,8 +31,9 @@
  *     13   bytes after the last item                                   the first of them
  *     14   lent output too short                                       0
  *     15   writer call that does not fit its state                     0
- *     16   no field k                                                  0
+ *     16   no field k; in a recording, no message k                    0
  *     17   value not of the kind asked or allowed                      0
+ *     18   recording: trailer or index wrong, or over 4,096 entries    0
  *     19   currency code that Appendix A of the manual does not list   its first byte
  */
 #ifndef SIM0MQ_H

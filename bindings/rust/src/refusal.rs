@@ -3,7 +3,7 @@
 use std::error::Error;
 use std::fmt;
 
-/// Why a call was refused, as one of the eighteen numbers: 1 to 17, and 19.
+/// Why a call was refused, as one of the nineteen numbers, 1 to 19.
 #[derive(Clone, Copy, Debug, PartialEq, Eq, PartialOrd, Ord, Hash)]
 #[repr(u8)]
 pub enum RefusalKind {
@@ -39,17 +39,19 @@ pub enum RefusalKind {
     NoRoom = 14,
     /// 15: the writer is not in a state for this call. The place is 0.
     WriterState = 15,
-    /// 16: the message has no field of this number. The place is 0.
+    /// 16: the message has no field of this number, or the recording no message. The place is 0.
     NoField = 16,
     /// 17: the field is no scalar, or the scalar is none that can be written. The place is 0.
     WrongKind = 17,
+    /// 18: a recording's trailer or index is wrong, or it has more than 4,096 entries. The place is 0.
+    Tail = 18,
     /// 19: a mark's currency code is none of the manual's list. The place is its first byte.
     CurrencyCode = 19,
 }
 
 impl RefusalKind {
-    /// All eighteen, in the order of their numbers.
-    pub const ALL: [RefusalKind; 18] = [
+    /// All nineteen, in the order of their numbers.
+    pub const ALL: [RefusalKind; 19] = [
         RefusalKind::EndsEarly,
         RefusalKind::WrongStart,
         RefusalKind::WrongEdition,
@@ -67,16 +69,17 @@ impl RefusalKind {
         RefusalKind::WriterState,
         RefusalKind::NoField,
         RefusalKind::WrongKind,
+        RefusalKind::Tail,
         RefusalKind::CurrencyCode,
     ];
 
-    /// The kind with this number, or `None` where the number is not 1 to 17 and not 19.
+    /// The kind with this number, or `None` where the number is not 1 to 19.
     #[must_use]
     pub fn of(number: u8) -> Option<RefusalKind> {
         RefusalKind::ALL.into_iter().find(|kind| kind.number() == number)
     }
 
-    /// Its number, 1 to 17 or 19.
+    /// Its number, 1 to 19.
     #[must_use]
     pub const fn number(self) -> u8 {
         self as u8
@@ -103,6 +106,7 @@ impl RefusalKind {
             RefusalKind::WriterState => "call out of turn in the writer",
             RefusalKind::NoField => "no such field",
             RefusalKind::WrongKind => "not a scalar that can be asked or written",
+            RefusalKind::Tail => "trailer or index of a recording wrong",
             RefusalKind::CurrencyCode => "unknown currency code",
         }
     }
@@ -142,7 +146,7 @@ impl Refusal {
         Refusal { kind, place }
     }
 
-    /// Its number, 1 to 17 or 19.
+    /// Its number, 1 to 19.
     #[must_use]
     pub const fn number(self) -> u8 {
         self.kind.number()

@@ -1,5 +1,5 @@
 -- The contract of a public call is an equation for its result and for each buffer that it may write, so any two outcomes that it allows are equal.
-use mathlib.Core.Path.{_≡_, ap, sym, _∙_}
+use mathlib.Core.Path.{_≡_, refl, ap, sym, _∙_}
 use denote.Ref.{now}
 use Rattle.sim0mq.specs.Answer.{Answer, refused}
 use Rattle.sim0mq.specs.Views.{judged}
@@ -16,6 +16,12 @@ use Rattle.fields.specs.declared.Fielded.the-variants.{Accepted as Fielded·Acc
 use Rattle.scalars.specs.Scalars.{valued}
 use Rattle.scalars.specs.declared.answer.Value.{Value}
 use Rattle.scalars.specs.declared.answer.Value.the-variants.{Is, Refused as Value·Refused}
+use Rattle.recordings_index.specs.Index.{trailedAs}
+use Rattle.recordings_index.specs.declared.Trailed.{Trailed}
+use Rattle.recordings_index.specs.declared.Trailed.the-variants.{Found, Wrong}
+use Rattle.recordings.specs.Recordings.{askedAs}
+use Rattle.recordings.specs.declared.Asked.{Asked}
+use Rattle.recordings.specs.declared.Asked.the-variants.{At, Refused as Asked·Refused}
 use Rattle.sim0mq.proofs.refuse.Reads as sim0mq-refuse
 use Rattle.parts.proofs.part.Reads as part
 use Rattle.payload.proofs.payload.Reads as payload
@@ -63,6 +69,16 @@ use Rattle.writing.proofs.Writer.open.Reads as opening
 use Rattle.writing.proofs.Writer.add.Reads as add
 use Rattle.writing.proofs.Writer.add_scalar.Reads as add-scalar
 use Rattle.writing.proofs.Writer.close.Reads as close
+use Rattle.recordings_index.proofs.index.Reads as index
+use Rattle.recordings.proofs.open.Reads as recording-open
+use Rattle.recordings.proofs.open_into.Reads as open-into
+use Rattle.recordings.proofs.ask.Reads as recording-ask
+use Rattle.recordings_fronts.proofs.front_length.Reads as front-length
+use Rattle.recordings_fronts.proofs.divide.Reads as divide
+use Rattle.recordings_tails.proofs.put_tail.Reads as put-tail
+use Rattle.recordings_writing.proofs.Recorder.new.Reads as recorder-new
+use Rattle.recordings_writing.proofs.Recorder.add.Reads as recorder-add
+use Rattle.recordings_writing.proofs.Recorder.close.Reads as recorder-close
 use Rattle.puts.proofs.bits.Reads as bits
 use Rattle.puts.proofs.put_big.Reads as put-big
 use Rattle.puts.proofs.put_number.Reads as put-number
@@ -117,6 +133,27 @@ judged-apart (Accepted n) (Accepted m) e = cc
 judged-apart (Accepted n) (Refused r) e = absurd (not-fine (sym e))
 judged-apart (Refused r) (Accepted n) e = absurd (not-fine e)
 judged-apart (Refused r) (Refused q) e = ap Refused (same-refusal r q e)
+
+trailed-apart : (x y : Trailed) → trailedAs x ≡ trailedAs y → x ≡ y
+trailed-apart (Found t) (Found u) e =
+    let s = fine-eq e in
+    λ i.
+    Found
+    (record {
+      edition =
+          record { number = s i .edition .number; wide = s i .edition .lengthBytes; most = s i .edition .most };
+      place = s i .place;
+      entries = s i .entries;
+    })
+trailed-apart (Found t) Wrong e = absurd (not-fine (sym e))
+trailed-apart Wrong (Found t) e = absurd (not-fine e)
+trailed-apart Wrong Wrong e = refl
+
+asked-apart : (x y : Asked) → askedAs x ≡ askedAs y → x ≡ y
+asked-apart (At p) (At q) e = let s = fine-eq e in λ i. At (record { start = s i .start; length = s i .size })
+asked-apart (At p) (Asked·Refused r) e = absurd (not-fine (sym e))
+asked-apart (Asked·Refused r) (At q) e = absurd (not-fine e)
+asked-apart (Asked·Refused r) (Asked·Refused q) e = ap Asked·Refused (same-refusal r q e)
 
 fielded-apart : (x y : Fielded) → fielded x ≡ fielded y → x ≡ y
 fielded-apart (Fielded·Accepted f) (Fielded·Accepted g) e =
@@ -296,6 +333,57 @@ blank-result = determined blank.Post (λ κs z e. z) (λ κs. judged) (λ κs. j
 
 pub blank-out : Determines blank.Post (λ κs z e. now (e .1 .0))
 blank-out = equated blank.Post (λ κs z e. now (e .1 .0)) _ (λ κs a z e p. p .1)
+
+-- The calls of recordings.
+pub index-result : Determines index.Post (λ κs z e. z)
+index-result = determined index.Post (λ κs z e. z) (λ κs. trailedAs) (λ κs. trailed-apart) _ (λ κs a z e p. p)
+
+pub recording-open-result : Determines recording-open.Post (λ κs z e. z)
+recording-open-result =
+    determined recording-open.Post (λ κs z e. z) (λ κs. judged) (λ κs. judged-apart) _ (λ κs a z e p. p)
+
+pub open-into-result : Determines open-into.Post (λ κs z e. z)
+open-into-result =
+    determined open-into.Post (λ κs z e. z) (λ κs. judged) (λ κs. judged-apart) _ (λ κs a z e p. p .0)
+
+pub open-into-table : Determines open-into.Post (λ κs z e. now (e .1 .0))
+open-into-table = equated open-into.Post (λ κs z e. now (e .1 .0)) _ (λ κs a z e p. p .1)
+
+pub recording-ask-result : Determines recording-ask.Post (λ κs z e. z)
+recording-ask-result =
+    determined recording-ask.Post (λ κs z e. z) (λ κs. askedAs) (λ κs. asked-apart) _ (λ κs a z e p. p)
+
+pub front-length-result : Determines front-length.Post (λ κs z e. z)
+front-length-result =
+    determined front-length.Post (λ κs z e. z) (λ κs. judged) (λ κs. judged-apart) _ (λ κs a z e p. p)
+
+pub divide-result : Determines divide.Post (λ κs z e. z)
+divide-result = equated divide.Post (λ κs z e. z) _ (λ κs a z e p. p .0)
+
+pub divide-lengths : Determines divide.Post (λ κs z e. now (e .1 .0))
+divide-lengths = equated divide.Post (λ κs z e. now (e .1 .0)) _ (λ κs a z e p. p .1)
+
+pub put-tail-result : Determines put-tail.Post (λ κs z e. z)
+put-tail-result =
+    determined put-tail.Post (λ κs z e. z) (λ κs. judged) (λ κs. judged-apart) _ (λ κs a z e p. p .0)
+
+pub put-tail-out : Determines put-tail.Post (λ κs z e. now (e .1 .0))
+put-tail-out = equated put-tail.Post (λ κs z e. now (e .1 .0)) _ (λ κs a z e p. p .1)
+
+pub recorder-new-result : Determines recorder-new.Post (λ κs z e. z)
+recorder-new-result = equated recorder-new.Post (λ κs z e. z) _ (λ κs a z e p. p)
+
+pub recorder-add-result : Determines recorder-add.Post (λ κs z e. z)
+recorder-add-result = equated recorder-add.Post (λ κs z e. z) _ (λ κs a z e p. p .0)
+
+pub recorder-add-out : Determines recorder-add.Post (λ κs z e. now (e .1 .1 .0))
+recorder-add-out = equated recorder-add.Post (λ κs z e. now (e .1 .1 .0)) _ (λ κs a z e p. p .1)
+
+pub recorder-close-result : Determines recorder-close.Post (λ κs z e. z)
+recorder-close-result = equated recorder-close.Post (λ κs z e. z) _ (λ κs a z e p. p .0)
+
+pub recorder-close-out : Determines recorder-close.Post (λ κs z e. now (e .1 .0))
+recorder-close-out = equated recorder-close.Post (λ κs z e. now (e .1 .0)) _ (λ κs a z e p. p .1)
 
 -- The calls of crate puts.
 pub bits-result : Determines bits.Post (λ κs z e. z)
