@@ -79,6 +79,7 @@ use Rattle.recordings_tails.proofs.put_tail.Reads as put-tail
 use Rattle.recordings_writing.proofs.Recorder.new.Reads as recorder-new
 use Rattle.recordings_writing.proofs.Recorder.add.Reads as recorder-add
 use Rattle.recordings_writing.proofs.Recorder.close.Reads as recorder-close
+use Rattle.recordings_salvaging.proofs.salvage.Reads as salvage
 use Rattle.puts.proofs.bits.Reads as bits
 use Rattle.puts.proofs.put_big.Reads as put-big
 use Rattle.puts.proofs.put_number.Reads as put-number
@@ -384,6 +385,12 @@ recorder-close-result = equated recorder-close.Post (λ κs z e. z) _ (λ κs a 
 
 pub recorder-close-out : Determines recorder-close.Post (λ κs z e. now (e .1 .0))
 recorder-close-out = equated recorder-close.Post (λ κs z e. now (e .1 .0)) _ (λ κs a z e p. p .1)
+
+pub salvage-result : Determines salvage.Post (λ κs z e. z)
+salvage-result = equated salvage.Post (λ κs z e. z) _ (λ κs a z e p. p .0)
+
+pub salvage-out : Determines salvage.Post (λ κs z e. now (e .1 .0))
+salvage-out = equated salvage.Post (λ κs z e. now (e .1 .0)) _ (λ κs a z e p. p .1)
 
 -- The calls of crate puts.
 pub bits-result : Determines bits.Post (λ κs z e. z)

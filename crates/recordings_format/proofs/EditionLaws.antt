@@ -16,6 +16,7 @@ use Rattle.recordings_format.specs.Edition.{Edition, first, newest, edit
 pub record Row (e : Edition) : Type 0 where
   pub numbered : e .number < 2 ^ (8 * 2)
   pub narrow : e .lengthBytes ≤ 4
+  pub some : 0 < e .most
   pub wide : e .most < 2 ^ (8 * e .lengthBytes)
   pub placed : mostMessages * e .most < 2 ^ (8 * 4)
   pub within : e .most ≤ limit
@@ -28,6 +29,7 @@ first-row =
     record {
       numbered = omega arith;
       narrow = omega arith;
+      some = omega arith;
       wide = omega arith;
       placed = omega arith;
       within = omega arith;

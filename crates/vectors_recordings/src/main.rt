@@ -9,6 +9,10 @@ use lines::part;
 use lines::spaced;
 use lines::starts;
 use recordings::Asked;
+use recordings_fronts::Stop;
+use recordings_salvaging::Report;
+use recordings_salvaging::Salvaged;
+use recordings_salvaging::salvage;
 use recordings_writing::Recorded;
 use recordings_writing::Recorder;
 use sim0mq::Judged;
@@ -347,6 +351,74 @@ fn listed(s: &[u8]) {
     }
 }
 
+// Writes what salvage reports: the length of the new recording, how many messages were kept, how many bytes dropped,
+// and why it stopped.
+fn reported(r: Report) {
+    figure(r.length);
+    say(b", kept");
+    figure(r.kept);
+    say(b" dropped");
+    figure(r.dropped);
+    let stop = r.stop;
+    match stop {
+        Stop::AtEnd => say(b" stopped at the end"),
+        Stop::AtMost => say(b" stopped at 4096 messages"),
+        Stop::AtFault(f) => refused(f),
+    }
+}
+
+// Writes how a new recording opens, and whether it is the bytes s themselves.
+fn opened(recording: &[u8], s: &[u8]) {
+    say(b", opens");
+    judged(recordings::open(recording));
+    if check::same(recording, s) {
+        say(b", the same bytes");
+    }
+}
+
+// Writes what salvaging the bytes s into `out` answers, and of the new recording how it opens.
+fn saved(s: &[u8], out: &mut [u8]) {
+    match salvage(s, out) {
+        Salvaged::Refused(r) => refused(r),
+        Salvaged::Saved(r) => {
+            reported(r);
+            opened(part(out, 0, r.length), s);
+        }
+    }
+    say(b"\n");
+}
+
+// `salvage A B N`, of the bytes s: writes what salvaging them in an output of n bytes answers.
+fn salvaged(line: &[u8], s: &[u8], n: usize) {
+    let mut out = [0u8; BUFFER];
+    if BUFFER < n {
+        lost(line);
+        return;
+    }
+    say(line);
+    say(b":");
+    saved(s, &mut out[0..n]);
+}
+
+// Writes what salvaging the first n of the bytes s answers.
+fn cut(s: &[u8], n: usize) {
+    let mut out = [0u8; BUFFER];
+    say(b"cut at");
+    figure(n);
+    say(b":");
+    saved(part(s, 0, n), &mut out);
+}
+
+// `cuts A B`, of the bytes s: writes what salvaging them answers where they are cut at each place, their end included.
+fn cuts(s: &[u8]) {
+    let mut n = 0;
+    while n < s.len() {
+        cut(s, n);
+        n += 1;
+    }
+    cut(s, n);
+}
+
 // `= TEXT`: writes the text.
 fn heading(line: &[u8]) {
     say(part(line, 2, line.len()));
@@ -380,8 +452,16 @@ fn reads(line: &[u8], out: &[u8]) {
         bytes(line, s);
         return;
     }
+    if starts(line, b"cuts ") {
+        cuts(s);
+        return;
+    }
     if n.c == NONE {
         lost(line);
+        return;
+    }
+    if starts(line, b"salvage ") {
+        salvaged(line, s, n.c);
         return;
     }
     if starts(line, b"ask ") {

@@ -1,0 +1,3 @@
+pub mod BackLaws
+pub mod SaveCases
+pub mod Promises
