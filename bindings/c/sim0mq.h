@@ -23,7 +23,7 @@
  *     5    a count is negative                                         its first byte
  *     6    status not 1 to 3                                           that byte; 0 in the writer
  *     7    more than 256 fields, or more than the count's type holds   first byte of the count; 0 in the writer
- *     8    more than 32,768 bytes in the message                       0
+ *     8    more than 65,536 bytes in the message                       0
  *     9    field code above 32                                         that byte
  *     10   Boolean byte above 1                                        that byte
  *     11   unit type unknown                                           that byte
@@ -57,7 +57,7 @@ extern "C" {
 #define SIM0MQ_WRITER_NUMBERS 7
 
 /* The most bytes of a message, the most fields, and the table's numbers for each field. */
-#define SIM0MQ_MOST_BYTES 32768
+#define SIM0MQ_MOST_BYTES 65536
 #define SIM0MQ_MOST_FIELDS 256
 #define SIM0MQ_ROW_NUMBERS 6
 
@@ -155,7 +155,7 @@ uint32_t sim0mq_open(const uint8_t *ids, size_t ids_len, int64_t number, uint8_t
 
 /*
  * Adds one encoded field.
- * Refusals: 15 where the declared number is reached, the state is closed, or its written length is above 32,768 or above out_len; those of a payload
+ * Refusals: 15 where the declared number is reached, the state is closed, or its written length is above 65,536 or above out_len; those of a payload
  * of one field (places within it); 8; 14.
  */
 uint32_t sim0mq_add(uint64_t written, uint64_t declared, uint64_t added, uint8_t closed, const uint8_t *field, size_t field_len,
@@ -171,7 +171,7 @@ uint32_t sim0mq_add_scalar(uint64_t written, uint64_t declared, uint64_t added, 
 
 /*
  * Closes the message.
- * Refusals: 15 where the state is closed, its written length is above 32,768, or not exactly the declared number of fields was added.
+ * Refusals: 15 where the state is closed, its written length is above 65,536, or not exactly the declared number of fields was added.
  */
 uint32_t sim0mq_close(uint64_t written, uint64_t declared, uint64_t added, uint8_t closed, uint64_t *answer, size_t answer_len);
 

@@ -11,7 +11,7 @@ use crate::peer::State;
 use crate::random::Random;
 
 /// The longest buffer any case uses.
-pub const MOST_ROOM: usize = 40_000;
+pub const MOST_ROOM: usize = 73_000;
 
 /// The length of a lent table for a message that declares `fields` fields.
 pub fn table_length(random: &mut Random, fields: u64) -> usize {
@@ -90,7 +90,7 @@ fn forged_number(random: &mut Random, near: u64, room: usize) -> u64 {
     match random.index(7) {
         0 => near.wrapping_add(random.below(5)).wrapping_sub(2),
         1 => random.pick(&[0, 1, 2, 127, 255, 256, 257]),
-        2 => random.pick(&[32_760, 32_766, 32_767, 32_768, 32_769]),
+        2 => random.pick(&[65_528, 65_534, 65_535, 65_536, 65_537]),
         3 => room.wrapping_add(random.below(5)).wrapping_sub(2),
         4 => random.pick(&[u64::MAX, u64::MAX - 1, u64::MAX - 8, 1 << 63, 1 << 32, (1 << 32) + 1]),
         5 => random.below(room.max(1)),

@@ -20,7 +20,7 @@ pub use scalar::Value;
 pub use writer::{add, add_scalar, close, open, State};
 
 /// The most bytes a message may have.
-pub const MOST_BYTES: usize = 32_768;
+pub const MOST_BYTES: usize = 65_536;
 /// The most payload fields a message may have.
 pub const MOST_FIELDS: u64 = 256;
 /// The numbers in the table for each field.
@@ -143,12 +143,12 @@ fn fill<const N: usize>(
         entry.copy_from_slice(&[
             u32::from(message[place]),
             place as u32,
-            u32::from(first),
-            u32::from(end - first),
+            first,
+            end - first,
             payload::marks(message, place),
             payload::values(message, place),
         ]);
-        place = usize::from(end);
+        place = end as usize;
     }
     Ok(reading)
 }
@@ -162,7 +162,7 @@ fn copy<const N: usize>(message: &[u8], header: &Header, out: &mut [u8]) -> Resu
     out[..header.end].copy_from_slice(&message[..header.end]);
     let mut copied = header.end;
     for &[first, end] in &spans[..header.fields] {
-        let (first, end) = (usize::from(first), usize::from(end));
+        let (first, end) = (first as usize, end as usize);
         payload::copy_head(&message[copied..first], &mut out[copied..first]);
         payload::clear(&mut out[first..end]);
         copied = end;

@@ -222,7 +222,7 @@ fn width(code: u8) -> i128 {
 
 /// Reads a message into a list of fields.
 fn read(message: &[u8], room: Option<usize>) -> Judged<(Reading, Vec<[u32; 6]>)> {
-    if message.len() > 32_768 {
+    if message.len() > 65_536 {
         return no(8, 0);
     }
     let mut scan = Scan { bytes: message, at: 0 };
@@ -340,7 +340,7 @@ fn open(opening: &Opening, room: usize) -> Judged<Vec<u8>> {
 
 /// Whether a message of this length is allowed and has room.
 fn room_for(length: u64, room: usize) -> Judged<()> {
-    if length > 32_768 {
+    if length > 65_536 {
         no(8, 0)
     } else if length > room as u64 {
         no(14, 0)
@@ -356,7 +356,7 @@ fn add(
     make: impl FnOnce() -> Judged<Vec<u8>>,
 ) -> (Judged<u64>, State) {
     let judged = (|| {
-        let outside = state.written > 32_768 || state.written > out.len() as u64;
+        let outside = state.written > 65_536 || state.written > out.len() as u64;
         if state.closed || outside || state.added >= state.declared {
             return no(15, 0);
         }
@@ -454,7 +454,7 @@ impl Subject for Plain {
     }
 
     fn close(&self, state: State, answer: &mut [u64]) -> u32 {
-        let fits = !state.closed && state.written <= 32_768 && state.added == state.declared;
+        let fits = !state.closed && state.written <= 65_536 && state.added == state.declared;
         give(answer, || {
             writer_numbers(if fits {
                 (Ok(state.written), State { closed: true, ..state })

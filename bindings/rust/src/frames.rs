@@ -62,7 +62,7 @@ impl Summary {
         &self.frames
     }
 
-    /// The summary that the numbers of a granted answer tell. None of them is above 32,768.
+    /// The summary that the numbers of a granted answer tell. None of them is above 65,536.
     pub(crate) fn answered(answer: &[u64; READ_NUMBERS]) -> Summary {
         let frame =
             |i: usize| Frame { place: answer[5 + 2 * i] as u32, code: answer[6 + 2 * i] as u8 };

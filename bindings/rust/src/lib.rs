@@ -72,7 +72,7 @@ pub use value::{Mark, Value};
 pub use writer::{Header, Unfinished, Writer};
 
 /// The most bytes that a message has.
-pub const MOST_BYTES: usize = 32_768;
+pub const MOST_BYTES: usize = 65_536;
 
 /// The most fields that a message has.
 pub const MOST_FIELDS: usize = 256;

@@ -23,7 +23,7 @@ pub enum RefusalKind {
     /// 7: more than 256 fields are declared, or more than the count's type can say. The place is
     /// the first byte of the count, and 0 in the writer.
     TooManyFields = 7,
-    /// 8: the message has more than 32,768 bytes. The place is 0.
+    /// 8: the message has more than 65,536 bytes. The place is 0.
     TooLong = 8,
     /// 9: no field has this code. The place is that byte.
     FieldCode = 9,
@@ -96,7 +96,7 @@ impl RefusalKind {
             RefusalKind::NegativeCount => "negative count",
             RefusalKind::Status => "status not 1 to 3",
             RefusalKind::TooManyFields => "too many fields",
-            RefusalKind::TooLong => "message above 32,768 bytes",
+            RefusalKind::TooLong => "message above 65,536 bytes",
             RefusalKind::FieldCode => "unknown field code",
             RefusalKind::Boolean => "Boolean neither 0 nor 1",
             RefusalKind::UnitType => "unknown unit type",

@@ -59,7 +59,7 @@ impl Driver<'_> {
         let room = match random.share(&[30, 50, 20]) {
             0 => generate::room(random, header),
             1 => header + random.index(600),
-            _ => header + random.index(generate::MOST_ROOM - 1000 - header.min(38_000)),
+            _ => header + random.index(generate::MOST_ROOM - 1000 - header.min(71_000)),
         };
         self.lend(random, 0, room);
         let numbers = generate::answer_length(random, WRITE, MOST_ANSWER);
@@ -218,7 +218,7 @@ fn encoded(random: &mut Random, state: State, field: &mut Vec<u8>) {
         }
         2 => {
             // Around the length at which the message is too long.
-            let left = 32_768_u64.saturating_sub(state.written).max(40) as usize;
+            let left = 65_536_u64.saturating_sub(state.written).max(40) as usize;
             let size = left + random.index(5) - 2;
             generate::sized_field(random, size, field);
         }

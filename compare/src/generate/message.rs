@@ -75,11 +75,11 @@ pub fn message(random: &mut Random, made: &mut Message) {
 pub fn sound_message(random: &mut Random, made: &mut Message) {
     made.bytes.clear();
     if random.chance(3) {
-        sized_message(random, 32_768, made);
+        sized_message(random, 65_536, made);
         return;
     }
     build(random, None, made);
-    while made.bytes.len() > 32_768 {
+    while made.bytes.len() > 65_536 {
         made.bytes.clear();
         build(random, None, made);
     }
@@ -110,7 +110,7 @@ fn long_ids(random: &mut Random, out: &mut Vec<u8>) {
     out.clear();
     // A header is at most 26 bytes longer than its ids; three of these have 3.
     let past = if random.chance(70) { random.index(8) } else { random.index(4_000) };
-    let characters = 32_768 - 26 - 14 + past;
+    let characters = 65_536 - 26 - 14 + past;
     out.push(9);
     out.extend((characters as u32).to_be_bytes());
     random.bytes(characters, out);
@@ -119,7 +119,7 @@ fn long_ids(random: &mut Random, out: &mut Vec<u8>) {
 
 /// Appends random bytes, mostly few of them.
 fn noise(random: &mut Random, made: &mut Message) {
-    let most = 1 << random.below(17);
+    let most = 1 << random.below(18);
     let count = random.index(most).min(MOST_ROOM - 100);
     random.bytes(count, &mut made.bytes);
     made.fields = random.below(4);
@@ -127,7 +127,7 @@ fn noise(random: &mut Random, made: &mut Message) {
 
 /// A message around the longest allowed length.
 fn near_limit(random: &mut Random, made: &mut Message) {
-    let length = 32_768 + random.index(6) - 3;
+    let length = 65_536 + random.index(6) - 3;
     sized_message(random, length, made);
     if random.chance(20) {
         random.bytes(3, &mut made.bytes);

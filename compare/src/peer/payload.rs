@@ -27,8 +27,8 @@ impl Field {
 
     /// Where the value bytes begin and end in a message.
     #[inline]
-    pub fn span(&self) -> [u16; 2] {
-        [self.first as u16, self.end() as u16]
+    pub fn span(&self) -> [u32; 2] {
+        [self.first as u32, self.end() as u32]
     }
 }
 

@@ -21,7 +21,7 @@ pub const MEANINGS: [&str; 20] = [
     "a count is negative",
     "the status is not 1 to 3",
     "there are too many fields",
-    "the message has more than 32768 bytes",
+    "the message has more than 65536 bytes",
     "a field code is above 32",
     "a Boolean byte is above 1",
     "a unit type is unknown",

@@ -5,7 +5,7 @@ ghost use lib.ListN.{length};
 pub mod wholes;
 
 // How many bytes an output that a line asks for has at most.
-pub const ROOM: usize = 33000;
+pub const ROOM: usize = 66000;
 
 // Stands for no number, and for one that is too large.
 pub const NONE: usize = usize::MAX;

@@ -47,4 +47,4 @@ pub record Worst (most : ℕ) : Type 0 where
   pub number : mostSteps limit ≡ most
 
 abbrev pub Worst-case : Type 0
-Worst-case = Worst 16371
+Worst-case = Worst 32755

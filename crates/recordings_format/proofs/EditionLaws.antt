@@ -2,16 +2,16 @@
 -- the number of a listed edition finds it.
 use Prim.Native.Nat.{ℕ, _*_, _<_, _≤_, _^_}
 use mathlib.Core.Path.{_≡_, refl, sym, subst}
-use mathlib.Core.Bool.{Bool, true, false, cond}
+use mathlib.Core.Bool.{Bool, true, false, cond, _&&_}
 use mathlib.Core.List.{List, [], _∷_}
 use native.Mathlib.Omega.{arith}
-use lib.Dec.{eqb}
-use borrow.Author.Tests.{eqb-true}
+use lib.Dec.{leb, ltb, eqb}
+use borrow.Author.Tests.{leb-true, ltb-true, eqb-true}
 use Rattle.sim0mq.specs.Answer.{fine}
 use Rattle.sim0mq.specs.Allowed.{Each, none, more}
 use Rattle.sim0mq.specs.Message.{limit}
-use Rattle.sim0mq.proofs.Answers.{not-fine, fine-eq}
-use Rattle.recordings_format.specs.Edition.{Edition, first, newest, editions, Listed, here, later, editionIn, editionOf, mostMessages}
+use Rattle.sim0mq.proofs.Answers.{not-fine, fine-eq, and-true}
+use Rattle.recordings_format.specs.Edition.{Edition, first, second, newest, editions, Listed, here, later, editionIn, editionOf, mostMessages}
 
 pub record Row (e : Edition) : Type 0 where
   pub numbered : e .number < 2 ^ (8 * 2)
@@ -22,22 +22,36 @@ pub record Row (e : Edition) : Type 0 where
   pub within : e .most ≤ limit
   pub found : editionOf (e .number) ≡ fine e
 
--- each edition's row, by its numbers
-first-row : Row first
-unfolding mostMessages limit editionIn
-first-row =
+-- a row sees to it where its numbers pass one test, and its number finds it
+abbrev fits : Edition → Bool
+fits e =
+    ltb (e .number) (2 ^ (8 * 2))
+    && leb (e .lengthBytes) 4
+    && ltb 0 (e .most)
+    && ltb (e .most) (2 ^ (8 * e .lengthBytes))
+    && ltb (mostMessages * e .most) (2 ^ (8 * 4))
+    && leb (e .most) limit
+
+row-by : (e : Edition) → fits e ≡ true → editionOf (e .number) ≡ fine e → Row e
+row-by e h found =
+    let a = and-true _ _ h in
+    let b = and-true _ _ (a .0) in
+    let c = and-true _ _ (b .0) in
+    let d = and-true _ _ (c .0) in
+    let f = and-true _ _ (d .0) in
     record {
-      numbered = omega arith;
-      narrow = omega arith;
-      some = omega arith;
-      wide = omega arith;
-      placed = omega arith;
-      within = omega arith;
-      found = refl;
+      numbered = ltb-true _ _ (f .0);
+      narrow = leb-true _ _ (f .1);
+      some = ltb-true _ _ (d .1);
+      wide = ltb-true _ _ (c .1);
+      placed = ltb-true _ _ (b .1);
+      within = leb-true _ _ (a .1);
+      found = found;
     }
 
 rows : Each Row editions
-rows = more first-row none
+unfolding mostMessages limit editionIn
+rows = more (row-by first refl refl) (more (row-by second refl refl) none)
 
 each-listed : (P : Edition → Type 0) (es : List Edition) (e : Edition) → Each P es → Listed e es → P e
 each-listed P (f ∷ es) e (more p ps) here = p
@@ -66,7 +80,7 @@ found-row n e q = listed-row e (found-listed n e q .0)
 
 -- the edition that is written is listed, and takes what reading takes
 pub newest-listed : Listed newest editions
-newest-listed = here
+newest-listed = later here
 
 pub newest-most : newest .most ≡ limit
 unfolding limit

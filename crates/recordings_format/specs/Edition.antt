@@ -1,4 +1,4 @@
--- The editions of a recording (02, Ticket 1): a row for each. What differs between them is in the row, and all else is
+-- The editions of a recording (02, Tickets 1 and 9): a row for each. What differs between them is in the row, and all else is
 -- said once over it.
 use Prim.Native.Nat.{ℕ, _+_}
 use mathlib.Core.Bool.{cond}
@@ -13,16 +13,20 @@ pub record Edition : Type 0 where
   pub lengthBytes : ℕ
   pub most : ℕ
 
--- Edition 1: a length has two bytes; the most bytes are those of 01, refusal 8.
+-- Edition 1 (Ticket 1): a length has two bytes; the most bytes are those of 01, refusal 8.
 abbrev pub first : Edition
 first = record { number = 1; lengthBytes = 2; most = 32768 }
 
+-- Edition 2 (Ticket 9): a length has four.
+abbrev pub second : Edition
+second = record { number = 2; lengthBytes = 4; most = 65536 }
+
 -- The one that is written.
 abbrev pub newest : Edition
-newest = first
+newest = second
 
 abbrev pub editions : List Edition
-editions = first ∷ []
+editions = first ∷ second ∷ []
 
 -- e is one of these.
 pub data Listed (e : Edition) : List Edition → Type 0 where

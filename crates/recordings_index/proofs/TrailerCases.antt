@@ -8,7 +8,7 @@ use lib.ListN.{length}
 use borrow.Author.Tests.{le-leb, lt-leb, eq-eqb, ne-eqb}
 use Rattle.sim0mq.specs.Answer.{fine, refused, big}
 use Rattle.numbers.specs.Numbers.{numberAt}
-use Rattle.recordings_format.specs.Edition.{first, editionIn, editionOf, mostMessages, trailerSize}
+use Rattle.recordings_format.specs.Edition.{first, second, editionIn, editionOf, mostMessages, trailerSize}
 use Rattle.recordings_format.specs.Judge.{trailerFrom, trailer}
 use Rattle.recordings_format.proofs.EditionLaws.{found-row}
 use Rattle.recordings_index.specs.Index.{rowOf, knownAs, trailerAs}
@@ -21,9 +21,13 @@ pub row-first : (n : ℕ) → n ≡ first .number → fine first ≡ editionOf n
 unfolding editionIn
 row-first n e = sym (simp (eq-eqb n (first .number) e))
 
-pub row-none : (n : ℕ) → (n ≡ first .number → ⊥) → refused 18 0 ≡ editionOf n
+pub row-second : (n : ℕ) → (n ≡ first .number → ⊥) → n ≡ second .number → fine second ≡ editionOf n
 unfolding editionIn
-row-none n e = sym (simp (ne-eqb n (first .number) e))
+row-second n e f = sym (simp (ne-eqb n (first .number) e, eq-eqb n (second .number) f))
+
+pub row-none : (n : ℕ) → (n ≡ first .number → ⊥) → (n ≡ second .number → ⊥) → refused 18 0 ≡ editionOf n
+unfolding editionIn
+row-none n e f = sym (simp (ne-eqb n (first .number) e, ne-eqb n (second .number) f))
 
 -- the trailer of these numbers, by what its number says of the edition
 known-row : (n : ℕ) {k : Known} {e : Edition} → knownAs k ≡ editionOf n → k ≡ Row e → editionOf n ≡ fine (rowOf e)

@@ -31,6 +31,13 @@ fn row_of(n: usize) -> Known
             most: 32768,
         });
     }
+    if n == 2 {
+        return Known::Row(Edition {
+            number: 2,
+            wide: 4,
+            most: 65536,
+        });
+    }
     Known::Unknown
 }
 

@@ -16,9 +16,9 @@ use sim0mq::Judged;
 use sim0mq::LIMIT;
 
 // The edition that is written, and the bytes that a length and an entry have in it.
-const EDITION: u64 = 1;
+const EDITION: u64 = 2;
 
-const LENGTH_BYTES: usize = 2;
+const LENGTH_BYTES: usize = 4;
 
 const ENTRY: usize = 4 + LENGTH_BYTES;
 

@@ -12,7 +12,7 @@ use sim0mq::Refusal;
 const FILE: usize = 3670016;
 
 // How many bytes the tail of a recording has at most: 4,096 entries and the trailer.
-const TAIL: usize = 24586;
+const TAIL: usize = 32778;
 
 // Writes a text to standard error.
 fn say(text: &[u8]) {

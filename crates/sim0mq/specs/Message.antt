@@ -10,9 +10,9 @@ use Rattle.sim0mq.specs.Payload.{payload, moved, steps}
 use Rattle.sim0mq.specs.Table.{rows, rowSize, stored}
 use Rattle.sim0mq.specs.Header.{Frame, Header, header}
 
--- A message has at most so many bytes (01, refusal 8).
+-- A message has at most so many bytes (01, refusal 8; 02, Ticket 9).
 unfoldable pub limit : ℕ
-limit = 32768
+limit = 65536
 
 -- What is lent beside the message: no table, or a table of r numbers.
 pub data Lent : Type 0 where

@@ -4,7 +4,7 @@ ghost use Rattle.sim0mq.specs.Answer.{refused};
 ghost use Rattle.sim0mq.specs.Views.{judged};
 
 // The most bytes that a message has.
-pub const LIMIT: usize = 32768;
+pub const LIMIT: usize = 65536;
 
 // How many numbers the field table has for each field.
 pub const ROW: usize = 6;

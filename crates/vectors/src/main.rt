@@ -45,7 +45,7 @@ fn answer(run: Run, text: &[u8], message: &[u8], out: &mut [u8]) -> usize {
 
 // The run of every line of `text`.
 fn all(text: &[u8]) -> Run {
-    let mut message_room = [0u8; 33000];
+    let mut message_room = [0u8; 66000];
     let mut expected_room = [0u8; 16384];
     let message: &mut [u8] = &mut message_room;
     let expected: &mut [u8] = &mut expected_room;

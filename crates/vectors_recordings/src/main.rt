@@ -19,10 +19,10 @@ use sim0mq::Judged;
 use sim0mq::Refusal;
 
 // How many bytes the buffer has: 4,096 messages of 35 bytes, their index, the trailer, and one message more.
-const BUFFER: usize = 167981;
+const BUFFER: usize = 176173;
 
 // How many zero bytes can be added as a message: one more than the longest has.
-const LONG: usize = 32769;
+const LONG: usize = 65537;
 
 // How often a message can be added by one line: once more than a recording has messages.
 const TIMES: usize = 4097;
@@ -202,17 +202,17 @@ fn many(line: &[u8], run: Run, out: &mut [u8]) -> Run {
     told(line, before, short(before, out))
 }
 
-// The run after messages of 77 and 35 bytes are added to none, by a recorder that is lent 217 bytes.
+// The run after messages of 77 and 35 bytes are added to none, by a recorder that is lent 223 bytes.
 fn two(out: &mut [u8]) -> Run {
     let run = Run {
         recorder: Recorder::new(),
-        room: 217,
+        room: 223,
     };
     let one = after(run, sample(run, out));
     after(one, short(one, out))
 }
 
-// `three`: the first 217 bytes become the recording of messages of 77, 35 and 77 bytes, by a recorder that is lent
+// `three`: the first 223 bytes become the recording of messages of 77, 35 and 77 bytes, by a recorder that is lent
 // just these.
 fn three(out: &mut [u8]) -> Run {
     let before = two(out);

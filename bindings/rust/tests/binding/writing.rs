@@ -91,7 +91,7 @@ fn refusals_of_opening() {
     assert_eq!(not_opened(&Header { count_type: Some(3), ..good }, 100), (4, 0));
     assert_eq!(not_opened(&Header { fields: 257, ..good }, 100), (7, 0));
     assert_eq!(not_opened(&Header { fields: 128, count_type: Some(0), ..good }, 100), (7, 0));
-    let long = [&[9, 0, 0, 0x80, 0], &[b'a'; MOST_BYTES][..], &[1, 0, 1].repeat(3)].concat();
+    let long = [&[9, 0, 1, 0, 0], &[b'a'; MOST_BYTES][..], &[1, 0, 1].repeat(3)].concat();
     assert_eq!(not_opened(&Header { ids: &long, ..good }, 100), (8, 0));
     assert_eq!(not_opened(&good, 67), (14, 0));
     assert_eq!(not_opened(&good, 0), (14, 0));

@@ -262,14 +262,14 @@ fn the_table_is_judged_between_header_and_fields() {
 
 #[test]
 fn the_longest_message() {
-    let size: u32 = 32_768 - 73;
+    let size: u32 = 65_536 - 73;
     let array = [&[11][..], &size.to_be_bytes(), &vec![7; size as usize]].concat();
     let longest = with_payload(&array);
-    assert_eq!(longest.len(), 32_768);
+    assert_eq!(longest.len(), 65_536);
     assert_eq!(table_of(&longest), [[11, 68, 73, size, 0, size]]);
     refused(&[&longest[..], &[0]].concat(), 8, 0);
-    refused(&[0; 32_769], 8, 0);
-    refused(&[0; 32_768], 2, 0);
+    refused(&[0; 65_537], 8, 0);
+    refused(&[0; 65_536], 2, 0);
 }
 
 #[test]

@@ -65,15 +65,15 @@ fn long_openings() {
         let count = (characters as u32).to_be_bytes();
         [&[9][..], &count, &vec![b'x'; characters], &[1, 0, 0].repeat(3)].concat()
     };
-    let mut out = vec![0; 40_000];
-    let longest = ids(32_768 - 24);
-    assert_eq!(open(&longest, 0, 1, 0, Some(1), &mut out).0, Ok(32_768));
-    assert_eq!(open(&longest, 0, 1, 0, Some(1), &mut out[..32_767]), unopened(14, 0));
-    assert_eq!(open(&longest, 0, 1, 0, Some(0), &mut out).0, Ok(32_767));
+    let mut out = vec![0; 80_000];
+    let longest = ids(65_536 - 24);
+    assert_eq!(open(&longest, 0, 1, 0, Some(1), &mut out).0, Ok(65_536));
+    assert_eq!(open(&longest, 0, 1, 0, Some(1), &mut out[..65_535]), unopened(14, 0));
+    assert_eq!(open(&longest, 0, 1, 0, Some(0), &mut out).0, Ok(65_535));
     assert_eq!(open(&longest, 0, 1, 0, Some(2), &mut out), unopened(8, 0));
-    assert_eq!(open(&ids(32_768 - 23), 0, 1, 0, Some(1), &mut []), unopened(8, 0));
+    assert_eq!(open(&ids(65_536 - 23), 0, 1, 0, Some(1), &mut []), unopened(8, 0));
     let (length, state) = open(&longest, 0, 1, 1, Some(1), &mut out);
-    assert_eq!(length, Ok(32_768));
+    assert_eq!(length, Ok(65_536));
     assert_eq!(add(state, &[0, 1], &mut out), unchanged(8, 0, state));
 }
 
@@ -86,7 +86,7 @@ fn adding_is_judged_in_order() {
         State { added: 2, ..OPEN },
         State { added: u64::MAX, declared: u64::MAX, ..OPEN },
         State { written: 101, ..OPEN },
-        State { written: 32_769, ..OPEN },
+        State { written: 65_537, ..OPEN },
         State { written: u64::MAX, ..OPEN },
     ] {
         assert_eq!(add(state, &[33], &mut out), unchanged(15, 0, state));
@@ -112,22 +112,22 @@ fn adding_is_judged_in_order() {
 
 #[test]
 fn too_long_comes_before_no_room() {
-    let mut out = vec![0xEE; 40_000];
-    let state = State { written: 32_767, declared: 300, added: 299, closed: false };
-    assert_eq!(add(state, &[0, 1], &mut out[..32_767]), unchanged(8, 0, state));
-    assert_eq!(add_scalar(state, 0, 1, 0, 0, 0, &mut out[..32_767]), unchanged(8, 0, state));
-    let state = State { written: 32_766, ..state };
-    assert_eq!(add(state, &[0, 1], &mut out[..32_767]), unchanged(14, 0, state));
-    let after = State { written: 32_768, added: 300, ..state };
-    assert_eq!(add(state, &[0, 1], &mut out), (Ok(32_768), after));
+    let mut out = vec![0xEE; 80_000];
+    let state = State { written: 65_535, declared: 300, added: 299, closed: false };
+    assert_eq!(add(state, &[0, 1], &mut out[..65_535]), unchanged(8, 0, state));
+    assert_eq!(add_scalar(state, 0, 1, 0, 0, 0, &mut out[..65_535]), unchanged(8, 0, state));
+    let state = State { written: 65_534, ..state };
+    assert_eq!(add(state, &[0, 1], &mut out[..65_535]), unchanged(14, 0, state));
+    let after = State { written: 65_536, added: 300, ..state };
+    assert_eq!(add(state, &[0, 1], &mut out), (Ok(65_536), after));
     // A field longer than any message is still judged first.
-    let long = [&[11, 0, 0, 0x90, 0][..], &vec![0; 0x9000]].concat();
+    let long = [&[11, 0, 1, 0x20, 0][..], &vec![0; 0x1_2000]].concat();
     assert_eq!(add(OPEN, &long, &mut out), unchanged(8, 0, OPEN));
     assert_eq!(
-        add(OPEN, &long[..40_000.min(long.len() - 1)], &mut out).0,
+        add(OPEN, &long[..80_000.min(long.len() - 1)], &mut out).0,
         Err(Refusal::new(1, long.len() - 1))
     );
-    assert_eq!(out[..32_766], [0xEE; 32_766]);
+    assert_eq!(out[..65_534], [0xEE; 65_534]);
 }
 
 #[test]
@@ -145,13 +145,13 @@ fn closing() {
         OPEN,
         State { added: 2, ..OPEN },
         State { added: 1, closed: true, ..OPEN },
-        State { added: 1, written: 32_769, ..OPEN },
+        State { added: 1, written: 65_537, ..OPEN },
         State { added: 1, written: u64::MAX, ..OPEN },
     ] {
         assert_eq!(close(state), unchanged(15, 0, state));
     }
-    let state = State { added: 1, written: 32_768, ..OPEN };
-    assert_eq!(close(state), (Ok(32_768), State { closed: true, ..state }));
+    let state = State { added: 1, written: 65_536, ..OPEN };
+    assert_eq!(close(state), (Ok(65_536), State { closed: true, ..state }));
 }
 
 /// Whether a scalar is refused as not allowed.
