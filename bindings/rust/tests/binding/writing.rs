@@ -140,7 +140,7 @@ fn a_refused_closing_hands_the_writer_back() {
 fn a_message_grows_to_the_most_bytes_and_no_further() {
     let mut out = vec![0; MOST_BYTES + 100];
     let mut writer = Writer::open(&mut out, &header(2)).unwrap();
-    let long = [&[9, 0, 0, 0x7F, 0xB6], &[b'a'; 0x7FB6][..]].concat();
+    let long = [&[9, 0, 0, 0xFF, 0xB6], &[b'a'; 0xFFB6][..]].concat();
     assert_eq!(writer.add(&long), Ok(MOST_BYTES - 1));
     assert_eq!(told(writer.add_value(Value::Byte(0)).unwrap_err()), (8, 0));
     assert_eq!(told(writer.add(&[0, 0]).unwrap_err()), (8, 0));
