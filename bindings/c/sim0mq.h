@@ -155,8 +155,8 @@ uint32_t sim0mq_open(const uint8_t *ids, size_t ids_len, int64_t number, uint8_t
 
 /*
  * Adds one encoded field.
- * Refusals: 15 where the declared number is reached, the state is closed, or its written length is above 65,536 or above out_len; those of a payload
- * of one field (places within it); 8; 14.
+ * Refusals: 15 where the declared number is reached, the state is closed, or its written length is above 65,536 or
+ * above out_len; those of a payload of one field (places within it); 8; 14.
  */
 uint32_t sim0mq_add(uint64_t written, uint64_t declared, uint64_t added, uint8_t closed, const uint8_t *field, size_t field_len,
                     uint8_t *out, size_t out_len, uint64_t *answer, size_t answer_len);
@@ -171,7 +171,8 @@ uint32_t sim0mq_add_scalar(uint64_t written, uint64_t declared, uint64_t added, 
 
 /*
  * Closes the message.
- * Refusals: 15 where the state is closed, its written length is above 65,536, or not exactly the declared number of fields was added.
+ * Refusals: 15 where the state is closed, its written length is above 65,536, or not exactly the declared number of
+ * fields was added.
  */
 uint32_t sim0mq_close(uint64_t written, uint64_t declared, uint64_t added, uint8_t closed, uint64_t *answer, size_t answer_len);
 

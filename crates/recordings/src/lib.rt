@@ -45,8 +45,8 @@ fn entry(s: &[u8], t: Trailer, k: usize) -> Placed
     Placed { start, length }
 }
 
-// The message of n bytes that begins at `at`, of at most `most` bytes: its length, or its own refusal, with its place in
-// the recording.
+// The message of n bytes that begins at `at`, of at most `most` bytes: its length, or its own refusal, with its place
+// in the recording.
 fn stretch(s: &[u8], at: usize, n: usize, most: usize) -> Judged
     requires { ⌜ (at + n ≤ length (now s)) × (most ≤ limit) ⌝ }
     ensures { λ r. ⌜ judged r ≡ sizeOf (stretchOf most (now (s .entry)) at n) ⌝ }

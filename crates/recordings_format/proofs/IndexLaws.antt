@@ -1,5 +1,5 @@
--- What a right trailer and index say: as many lengths as entries, which come to the index's place, and each entry states
--- its own start and length.
+-- What a right trailer and index say: as many lengths as entries, which come to the index's place, and each entry
+-- states its own start and length.
 use Prim.Native.Nat.{ℕ, zero, suc, _+_, _-_, _*_, _≤_, _<_}
 use mathlib.Core.Path.{_≡_, refl, ap, sym, _∙_, subst}
 use mathlib.Core.List.{List, [], _∷_}

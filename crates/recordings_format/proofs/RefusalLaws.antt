@@ -1,5 +1,5 @@
--- Every refusal of opening and asking is 18, 14 or 16 at 0, or a message's own at a place in the recording: a message is
--- judged only once trailer and index are right, and then it lies in the recording.
+-- Every refusal of opening and asking is 18, 14 or 16 at 0, or a message's own at a place in the recording: a message
+-- is judged only once trailer and index are right, and then it lies in the recording.
 use Prim.Native.Nat.{ℕ, zero, suc, _+_, _*_, _≤_, zero-le}
 use mathlib.Core.Path.{_≡_, refl, ap, sym, _∙_, subst}
 use mathlib.Core.Bool.{Bool, true, false, cond, not, _||_, or-true, false≢true}

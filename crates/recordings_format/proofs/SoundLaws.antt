@@ -1,5 +1,5 @@
--- Whatever is opened is a recording: the index and the trailer are the bytes that their numbers are written in, and they
--- leave nothing out.
+-- Whatever is opened is a recording: the index and the trailer are the bytes that their numbers are written in, and
+-- they leave nothing out.
 use Prim.Native.Nat.{ℕ, zero, suc, _+_, _-_, _*_, _<_, _≤_, _^_}
 use mathlib.Core.Path.{_≡_, refl, ap, ap₂, sym, _∙_, subst}
 use mathlib.Core.List.{List, [], _∷_, _++_, map}

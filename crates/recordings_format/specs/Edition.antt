@@ -1,5 +1,5 @@
--- The editions of a recording (02, Tickets 1 and 9): a row for each. What differs between them is in the row, and all else is
--- said once over it.
+-- The editions of a recording (02, Tickets 1 and 9): a row for each. What differs between them is in the row, and all
+-- else is said once over it.
 use Prim.Native.Nat.{ℕ, _+_}
 use mathlib.Core.Bool.{cond}
 use mathlib.Core.List.{List, [], _∷_}

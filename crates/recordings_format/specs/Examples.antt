@@ -34,9 +34,9 @@ pub twice-ends :
 unfolding twice sample front indexText bigBytes total flatMap
 twice-ends = refl
 
--- Opened: it, and the recording of no message. No bytes at all; one byte too few; a byte between the messages; the second
--- begins within the first; it is said to be longer; another place of the first entry; an entry less, and one more; an
--- edition that is none. Status 4 in the first message, and in the second.
+-- Opened: it, and the recording of no message. No bytes at all; one byte too few; a byte between the messages; the
+-- second begins within the first; it is said to be longer; another place of the first entry; an entry less, and one
+-- more; an edition that is none. Status 4 in the first message, and in the second.
 pub examples-hold :
     map (λ (s : List ℕ). lengthsOf (opening noTable s))
     (twice

@@ -1,4 +1,5 @@
--- Opening a recording, and asking for a message in it (02, Ticket 1): the trailer and the index (18), then the messages.
+-- Opening a recording, and asking for a message in it (02, Ticket 1): the trailer and the index (18), then the
+-- messages.
 use Prim.Native.Nat.{ℕ, zero, suc, _+_, _-_, _*_}
 use mathlib.Core.Bool.{Bool, true}
 use mathlib.Core.List.{List, [], _∷_}
@@ -16,8 +17,8 @@ pub record Trailer : Type 0 where
   pub place : ℕ
   pub entries : ℕ
 
--- The trailer of these numbers, which begins at `at`: a known edition, not too many entries, and an index that fills the
--- bytes from its place to the trailer.
+-- The trailer of these numbers, which begins at `at`: a known edition, not too many entries, and an index that fills
+-- the bytes from its place to the trailer.
 unfoldable pub trailerFrom : ℕ → ℕ → ℕ → ℕ → Answer Trailer
 trailerFrom number place entries at = do
   e ← editionOf number

@@ -1,5 +1,5 @@
--- How trailer and index are judged together: an index that does not tile is refused by 18 as a wrong trailer is, and one
--- that does comes to the trailer's own place and number.
+-- How trailer and index are judged together: an index that does not tile is refused by 18 as a wrong trailer is, and
+-- one that does comes to the trailer's own place and number.
 use Prim.Native.Nat.{ℕ}
 use mathlib.Core.Path.{_≡_, refl, ap, ap₂, sym, _∙_}
 use mathlib.Core.Bool.{true, false, false≢true}

@@ -19,8 +19,8 @@ rescued e s = runFrom (e .most) mostMessages s 0
 unfoldable pub salvageText : Edition → List ℕ → List ℕ
 salvageText e s = take (total (rescued e s .lengths)) s ++ tailText e (rescued e s .lengths)
 
--- What is reported: the new recording's length, how many messages were kept, how many bytes dropped, and why it stopped:
--- at the end of the bytes, at the most messages with bytes left, or at a refusal.
+-- What is reported: the new recording's length, how many messages were kept, how many bytes dropped, and why it
+-- stopped: at the end of the bytes, at the most messages with bytes left, or at a refusal.
 pub record Report : Type 0 where
   pub bytes : ℕ
   pub kept : ℕ

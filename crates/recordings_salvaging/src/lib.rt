@@ -13,7 +13,8 @@ use recordings_tails::put_tail;
 use sim0mq::Judged;
 use sim0mq::Refusal;
 
-// What is reported: the new recording's length, how many messages were kept, how many bytes dropped, and why it stopped.
+// What is reported: the new recording's length, how many messages were kept, how many bytes dropped, and why it
+// stopped.
 pub struct Report {
     pub length: usize,
     pub kept: usize,
@@ -52,8 +53,8 @@ fn save(file: &[u8], d: Divided, lengths: &[u32], out: &mut [u8]) -> Salvaged
 }
 
 // Keeps the longest run of messages from the front of the file, and writes the recording of them to the front of `out`:
-// its length, how many were kept, how many bytes dropped, and why it stopped. Or 14 at 0, where `out` is too short for the
-// recording; refused, `out` is as it was.
+// its length, how many were kept, how many bytes dropped, and why it stopped. Or 14 at 0, where `out` is too short for
+// the recording; refused, `out` is as it was.
 pub fn salvage(file: &[u8], out: &mut [u8]) -> Salvaged
     ensures answer { λ r. ⌜ r ≡ salvagedAs (salvageOf newest (length (now (out .entry))) (now (file .entry))) ⌝ }
     ensures written { λ _. ⌜ now (out .exit) ≡ outputAfter newest (now (file .entry)) (now (out .entry)) (salvageOf newest (length (now (out .entry))) (now (file .entry))) ⌝ }

@@ -6,7 +6,6 @@ use mathlib.Core.List.{List, _++_}
 use native.Mathlib.Omega.{arith}
 use lib.ListN.{length, take, drop, length-append}
 use lib.Seq.{take-at, length-take-le}
-use lib.Dec.{eqb}
 use borrow.Author.Tests.{eq-eqb, ne-eqb}
 use Rattle.sim0mq.specs.Answer.{Answer, fine, refused}
 use Rattle.sim0mq.specs.Table.{stored}
@@ -18,7 +17,7 @@ use Rattle.sim0mq.specs.declared.Refusal.{Refusal}
 use Rattle.sim0mq.proofs.Answers.{not-fine, fine-eq}
 use Rattle.opening.specs.Opening.{bufferAfter}
 use Rattle.dividing.specs.Run as Run
-use Rattle.dividing.specs.Run.{runFrom, total}
+use Rattle.dividing.specs.Run.{runFrom}
 use Rattle.recordings_fronts.specs.Fronts.{stopOf, dividedOf}
 use Rattle.recordings_fronts.specs.declared.Divided.{Divided}
 use Rattle.recordings_fronts.specs.declared.Stop.the-variants.{AtEnd, AtMost, AtFault}

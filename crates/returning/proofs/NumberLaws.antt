@@ -1,5 +1,5 @@
--- A signed number is read back from its bits, since two's complement leaves out nothing; and what the manual asks of a field
--- that is one number, its code alone sees to.
+-- A signed number is read back from its bits, since two's complement leaves out nothing; and what the manual asks of a
+-- field that is one number, its code alone sees to.
 use Prim.Native.Nat.{ℕ, suc, _+_, _-_, _*_, _<_, _≤_, _^_}
 use mathlib.Core.Path.{_≡_, ap, sym, _∙_}
 use mathlib.Core.Bool.{true, false, false≢true}

@@ -1,4 +1,5 @@
--- The table is written only once trailer, index, its own room and the messages are judged, and then it holds their places.
+-- The table is written only once trailer, index, its own room and the messages are judged, and then it holds their
+-- places.
 use mathlib.Core.Path.{sym, ap, _∙_}
 use native.Mathlib.Omega.{arith}
 use Rattle.sim0mq.specs.Views.{judged}

@@ -1,5 +1,5 @@
--- `left` is what is left of `at` once the first lengths are taken off: where one is more than that or than a message has,
--- or something is left at the end, they do not come to it.
+-- `left` is what is left of `at` once the first lengths are taken off: where one is more than that or than a message
+-- has, or something is left at the end, they do not come to it.
 use Prim.Native.Nat.{_-_}
 use native.Mathlib.Omega.{arith}
 use lib.ListN.{length}

@@ -1,5 +1,5 @@
--- The lengths and the room are judged first, as the definition judges them; then the index is put, and the trailer where
--- it ends.
+-- The lengths and the room are judged first, as the definition judges them; then the index is put, and the trailer
+-- where it ends.
 use mathlib.Core.Path.{refl, sym, _∙_}
 use native.Mathlib.Omega.{arith}
 use borrow.Author.Tests.{not-true, not-false}
