@@ -1,1 +1,2 @@
 pub mod AnswerCases
+pub mod SaidLaws

@@ -7,14 +7,14 @@ use native.Mathlib.Omega.{arith}
 use native.Mathlib.Nat.{add-zero}
 use lib.ListN.{length, take, drop, length-take, length-drop}
 use borrow.Author.Tests.{lt-leb, le-leb}
-use Rattle.sim0mq.specs.Answer as S
 use Rattle.sim0mq.specs.Answer.{Answer, fine, refused, partAt}
 use Rattle.sim0mq.specs.Message as M
 use Rattle.sim0mq.specs.Message.{limit, noTable, message, reading}
 use Rattle.sim0mq.specs.Demand1.{readingNumbers}
 use Rattle.sim0mq.specs.declared.Refusal.{Refusal}
 use Rattle.sim0mq.proofs.Refusals.{Held, message-placed}
-use Rattle.reading.specs.Answers.{foundIn, answered}
+use Rattle.reading.specs.Answers.{answered}
+use Rattle.reading.proofs.SaidLaws.{said-fine, said-refused}
 use Rattle.reading.specs.declared.Found.{Found}
 use Rattle.reading.specs.declared.Reading.the-variants.{Accepted, Refused}
 use Rattle.recordings_format.specs.Judge.{stretch}
@@ -28,18 +28,6 @@ stretch-read most s at n h k =
     let m = take n (drop at s) in
     let short : length m ≤ n = omega (arith, length-take n (drop at s)) in
     simp (le-leb (length m) most (omega arith), le-leb (length m) limit (omega arith))
-
--- what reading said, as an answer of the definitions
-said-refused : (x : S.Answer M.Reading) (r : Refusal) → answered x .said ≡ Refused r → x ≡ refused (r .number) (r .place)
-said-refused (fine m) r e = let z : _≡_ {A = ℕ} 0 1 = cc in absurd (omega arith)
-said-refused (refused k p) r e =
-    let h : _≡_ {A = Refusal} (record { number = k; place = p }) r = cc in
-    ap (λ (g : Refusal). refused (g .number) (g .place)) h
-
-said-accepted : (x : S.Answer M.Reading) (at : ℕ) (f : Found) → answered x .said ≡ Accepted f
-    → fine (f .length) ≡ sizeOf (partAt at x)
-said-accepted (fine m) at f e = let h : foundIn m ≡ f = cc in ap (λ (g : Found). fine (g .length)) (sym h)
-said-accepted (refused k p) at f e = let z : _≡_ {A = ℕ} 0 1 = cc in absurd (omega arith)
 
 module _ (most : ℕ) (s : List ℕ) (at n : ℕ) (asked : (at + n ≤ length s) × (most ≤ limit)) where
   pub stretch-over : most < n → refused 8 at ≡ sizeOf (stretch most s at n)
@@ -62,7 +50,8 @@ module _ (most : ℕ) (s : List ℕ) (at n : ℕ) (asked : (at + n ≤ length s)
         → fine (f .length) ≡ sizeOf (stretch most s at n)
     stretch-accepted f e =
         let said = ap (λ (l : List ℕ). answered (reading noTable l) .said) (sym cut) ∙ e in
-        said-accepted (reading noTable (take n (drop at s))) at f said ∙ sym (ap sizeOf alike)
+        let m = said-fine (reading noTable (take n (drop at s))) f said in
+        ap (λ (g : Found). fine (g .length)) (sym (m .2)) ∙ sym (ap (λ (x : Answer M.Reading). sizeOf (partAt at x)) (m .1)) ∙ sym (ap sizeOf alike)
 
     module _ (r : Refusal) (e : answered (reading noTable (take (at + n - at) (drop at s))) .said ≡ Refused r) where
       fault : reading noTable (take n (drop at s)) ≡ refused (r .number) (r .place)

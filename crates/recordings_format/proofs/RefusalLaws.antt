@@ -25,13 +25,16 @@ use Rattle.recordings_format.proofs.IndexLaws.{index-says, total-nth}
 abbrev ownNumbers : List ℕ
 ownNumbers = 18 ∷ 14 ∷ 16 ∷ []
 
--- none of them is a message's
+-- a message is refused by none of the numbers that are not for judging one
+pub message-apart : (own : List ℕ) (k : ℕ) → allPass (λ (j : ℕ). not (among j own)) judgingNumbers ≡ true
+    → among k judgingNumbers ≡ true → among k own ≡ true → ⊥
+message-apart own k others h is =
+    let no : not (among k own) ≡ true = pass-among (λ (j : ℕ). not (among j own)) judgingNumbers k others h in
+    false≢true (sym (ap not is) ∙ no)
+
 message-number : (k : ℕ) → among k judgingNumbers ≡ true → among k ownNumbers ≡ true → ⊥
 unfolding among allPass
-message-number k h own =
-    let no : not (among k ownNumbers) ≡ true
-    = pass-among (λ (j : ℕ). not (among j ownNumbers)) judgingNumbers k refl h in
-    false≢true (sym (ap not own) ∙ no)
+message-number k h own = message-apart ownNumbers k refl h own
 
 -- an answer, if it is a refusal, is one of these
 abbrev pub Told : {A : Type 0} → List ℕ → List ℕ → Answer A → Type 0
@@ -127,7 +130,7 @@ module _ (numbers s : List ℕ) where
         (stretches-told (i .edition .most) 0 (i .lengths) (omega arith)) (λ u found. tt)
 
 -- a number that is listed is so in a longer list
-listed-after : (j k : ℕ) (numbers : List ℕ) → among k numbers ≡ true → among k (j ∷ numbers) ≡ true
+pub listed-after : (j k : ℕ) (numbers : List ℕ) → among k numbers ≡ true → among k (j ∷ numbers) ≡ true
 unfolding among
 listed-after j k numbers h = rw h (or-true (eqb k j))
 

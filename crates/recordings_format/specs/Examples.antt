@@ -13,7 +13,7 @@ use Rattle.sim0mq.specs.Message.{noTable, limit, enough, messageRest, message}
 use Rattle.sim0mq.specs.Examples.{front, sample}
 use Rattle.scalars.specs.Bytes.{bigBytes}
 use Rattle.dividing.specs.Run.{total}
-use Rattle.recordings_format.specs.Edition.{first, editionIn, mostMessages, trailerSize}
+use Rattle.recordings_format.specs.Edition.{first, second, editionIn, mostMessages, trailerSize}
 use Rattle.recordings_format.specs.Text.{indexText, recordingText}
 use Rattle.recordings_format.specs.Judge.{trailerFrom, trailer, entriesFrom, Index, index, stretch, stretchesFrom, roomy, opening, asking}
 
@@ -21,6 +21,11 @@ use Rattle.recordings_format.specs.Judge.{trailerFrom, trailer, entriesF
 unfoldable pub twice : List ℕ
 unfolding sample front
 twice = recordingText first (sample ∷ sample ∷ [])
+
+-- The same in the second edition, whose entries have 8 bytes: 180 bytes, of which the last two are the edition's.
+unfoldable pub twiceLong : List ℕ
+unfolding sample front
+twiceLong = recordingText second (sample ∷ sample ∷ [])
 
 -- What opening comes to: the messages' lengths, or the refusal.
 abbrev pub lengthsOf : Answer Index → Answer (List ℕ)
@@ -36,7 +41,8 @@ twice-ends = refl
 
 -- Opened: it, and the recording of no message. No bytes at all; one byte too few; a byte between the messages; the
 -- second begins within the first; it is said to be longer; another place of the first entry; an entry less, and one
--- more; an edition that is none. Status 4 in the first message, and in the second.
+-- more; an edition that is none. Status 4 in the first message, and in the second. The second edition; and
+-- its bytes with the number of the first, and of one that is none.
 pub examples-hold :
     map (λ (s : List ℕ). lengthsOf (opening noTable s))
     (twice
@@ -52,6 +58,9 @@ pub examples-hold :
     ∷ set twice 175 0
     ∷ set twice 64 4
     ∷ set twice 141 4
+    ∷ twiceLong
+    ∷ set twiceLong 179 1
+    ∷ set twiceLong 179 3
     ∷ [])
     ≡ fine (77 ∷ 77 ∷ [])
     ∷ fine []
@@ -66,9 +75,12 @@ pub examples-hold :
     ∷ refused 18 0
     ∷ refused 6 64
     ∷ refused 6 141
+    ∷ fine (77 ∷ 77 ∷ [])
+    ∷ refused 18 0
+    ∷ refused 18 0
     ∷ []
 unfolding
-    flatMap twice sample front indexText bigBytes total editionIn mostMessages trailerSize trailerFrom trailer entriesFrom index stretch stretchesFrom roomy opening
+    flatMap twice twiceLong sample front indexText bigBytes total editionIn mostMessages trailerSize trailerFrom trailer entriesFrom index stretch stretchesFrom roomy opening
     message messageRest enough limit
     header declared status frame magic digit literal among statusTaken fieldsTaken payload payloadFrom moved steps
     field outline after booleans booleansOf head headRest counts count markCount mark marks markRest display currency kindOf currencyTaken

@@ -1,8 +1,8 @@
 -- Every refusal of adding and closing is 15 or 14 at 0, or the message's own at a place in it: the state and the room
 -- are the only other things that they judge.
 use Prim.Native.Nat.{ℕ, zero-le}
-use mathlib.Core.Path.{_≡_, refl, ap, sym, _∙_}
-use mathlib.Core.Bool.{Bool, true, false, not, _&&_, or-true, false≢true}
+use mathlib.Core.Path.{_≡_, refl}
+use mathlib.Core.Bool.{Bool, true, false, _&&_}
 use mathlib.Core.List.{List, _∷_}
 use lib.ListN.{length}
 use lib.Dec.{leb, ltb, eqb}
@@ -10,10 +10,11 @@ use Rattle.sim0mq.specs.Answer.{Answer, fine, refused, _>>=_, _>>_, guard}
 use Rattle.sim0mq.specs.Codes.{among}
 use Rattle.sim0mq.specs.Message.{noTable, Reading, message}
 use Rattle.sim0mq.specs.Demand1.{judgingNumbers}
-use Rattle.sim0mq.proofs.Rows.{allPass, pass-among}
+use Rattle.sim0mq.proofs.Rows.{allPass}
 use Rattle.sim0mq.proofs.Refusals.{Held, message-placed}
 use Rattle.recordings_format.specs.Edition.{Edition, mostMessages}
 use Rattle.recordings_format.specs.Text.{tailText}
+use Rattle.recordings_format.proofs.RefusalLaws.{message-apart, listed-after}
 use Rattle.recordings_tails.specs.Tails.{roomFor}
 use Rattle.recordings_writing.specs.declared.Recorder.{Recorder}
 use Rattle.recordings_writing.specs.Recorder.{usable, adding, ended, writtenRun, found, closing}
@@ -22,10 +23,7 @@ use Rattle.recordings_writing.specs.Promises.{stateNumbers, IsOfAdding}
 -- no message is refused by 15 or 14
 message-number : (k : ℕ) → among k judgingNumbers ≡ true → among k stateNumbers ≡ true → ⊥
 unfolding among allPass
-message-number k h own =
-    let no : not (among k stateNumbers) ≡ true
-    = pass-among (λ (j : ℕ). not (among j stateNumbers)) judgingNumbers k refl h in
-    false≢true (sym (ap not own) ∙ no)
+message-number k h own = message-apart stateNumbers k refl h own
 
 -- an answer of closing, if it is a refusal, is one of these
 abbrev pub ToldClosing : {A : Type 0} → Answer A → Type 0
@@ -58,10 +56,6 @@ closing-told e w out =
 abbrev pub ToldAdding : List ℕ → Answer (List ℕ) → Type 0
 ToldAdding m (fine text) = Unit {0}
 ToldAdding m (refused k p) = IsOfAdding m k p
-
-listed-after : (j k : ℕ) (numbers : List ℕ) → among k numbers ≡ true → among k (j ∷ numbers) ≡ true
-unfolding among
-listed-after j k numbers h = rw h (or-true (eqb k j))
 
 pub adding-told : (e : Edition) (w : Recorder) (room : ℕ) (m : List ℕ) → ToldAdding m (adding e w room m)
 unfolding adding roomFor among

@@ -17,6 +17,7 @@ use Rattle.sim0mq.specs.Allowed.{Each, joined}
 use Rattle.sim0mq.proofs.Answers.{guarded, bind-fine, fine-eq, and-true}
 use Rattle.opening.specs.Opening.{bufferAfter}
 use Rattle.reading.specs.Answers.{answered}
+use Rattle.reading.proofs.SaidLaws.{said-fine, said-refused}
 use Rattle.reading.specs.declared.Answer as R
 use Rattle.reading.specs.declared.Found.{Found}
 use Rattle.reading.specs.declared.Reading.the-variants.{Accepted, Refused}
@@ -26,7 +27,6 @@ use Rattle.dividing.specs.Promises.{StoppedFor}
 use Rattle.dividing.proofs.RunLaws.{stretches-joined, run-is}
 use Rattle.recordings_format.specs.Edition.{Edition, newest, mostMessages}
 use Rattle.recordings_format.specs.Text.{tailText}
-use Rattle.recordings_fronts.proofs.FrontCases.{said-fine, said-refused}
 use Rattle.recordings_format.proofs.EditionLaws.{newest-most}
 use Rattle.recordings_format.proofs.SoundLaws.{stretches-long}
 use Rattle.recordings_tails.specs.Tails.{roomFor}
