@@ -35,7 +35,7 @@ counts-same s at (x ∷ xs) (y ∷ ys) e (more i is) (more j js) a b =
     ap₂ _∷_ (stands-same x y (sym long) (stands-left x (joined xs) a) (stands-left y (joined ys) b)) rest
 
 -- what stands before a field's values
-abbrev frontBytes : FieldParts → List ℕ
+abbrev pub frontBytes : FieldParts → List ℕ
 frontBytes f = f .code ∷ (joined (f .counts) ++ joined (f .marks))
 
 -- a field is known from what stands before its values
@@ -67,7 +67,7 @@ field-alike s at f g i j a b =
     record { code = code k; place = at; first = first′ k; size = size k; marked = many k; values = valuesAsked (counts k) }
 
 -- the value bytes of fields from `at` on lie after `at`
-values-after : (at i : ℕ) (fs : List FieldParts) → ValueByte (fieldsAt at fs) i → at < i
+pub values-after : (at i : ℕ) (fs : List FieldParts) → ValueByte (fieldsAt at fs) i → at < i
 unfolding fieldsAt
 values-after at i [] v = no-values v
   where
@@ -78,7 +78,7 @@ values-after at i (f ∷ fs) (later v) =
     let h = values-after (at + length (fieldBytes f)) i fs v in omega arith
 
 -- those of the first field and all later ones lie after what stands before its values
-values-past : (at i : ℕ) (f : FieldParts) (fs : List FieldParts) → i < at + length (frontBytes f) → ValueByte (fieldsAt at (f ∷ fs)) i → ⊥
+pub values-past : (at i : ℕ) (f : FieldParts) (fs : List FieldParts) → i < at + length (frontBytes f) → ValueByte (fieldsAt at (f ∷ fs)) i → ⊥
 unfolding fieldsAt
 values-past at i f fs l (here h k) =
     let e = length-append (joined (f .counts)) (joined (f .marks)) in omega arith
@@ -104,7 +104,7 @@ front-left {s} {at} f st =
     (subst (λ (l : List ℕ). Stands s at (f .code ∷ l)) (sym (append-assoc (joined (f .counts)) (joined (f .marks)) (f .values))) st)
 
 -- after the first field, the value bytes are those of the later ones
-values-rest : (at i : ℕ) (f : FieldParts) (fs : List FieldParts) → at + length (fieldBytes f) ≤ i
+pub values-rest : (at i : ℕ) (f : FieldParts) (fs : List FieldParts) → at + length (fieldBytes f) ≤ i
     → (ValueByte (fieldsAt (at + length (fieldBytes f)) fs) i → ⊥) → ValueByte (fieldsAt at (f ∷ fs)) i → ⊥
 unfolding fieldsAt after
 values-rest at i f fs l v (here h k) = let e = after-at at f in omega arith
