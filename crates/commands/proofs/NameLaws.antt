@@ -1,6 +1,6 @@
 -- Each name has the row of its type id, and each row a name: it is seen case by case.
 use Prim.Native.Nat.{ℕ, _<_}
-use mathlib.Core.Path.{_≡_, refl}
+use mathlib.Core.Path.{_≡_, refl, ap, sym, _∙_}
 use mathlib.Core.List.{List, [], _∷_}
 use native.Mathlib.Omega.{arith}
 use lib.ListN.{length, getD}
@@ -66,6 +66,30 @@ names =
 named-at : (k : ℕ) → k < 18 → numberOf (getD names k StartFederate) ≡ k
 unfolding allBelow
 named-at k h = eqb-true _ k (below-at (λ (j : ℕ). eqb (numberOf (getD names j StartFederate)) j) 18 k refl h)
+
+-- so a name is known by its row
+its-name : (c : Name) → getD names (numberOf c) StartFederate ≡ c
+its-name StartFederate = refl
+its-name StarterRequestStatus = refl
+its-name Status = refl
+its-name FederateStarted = refl
+its-name SimRunControl = refl
+its-name AckNak = refl
+its-name SetParameter = refl
+its-name SimStart = refl
+its-name RequestStatus = refl
+its-name RequestStatistics = refl
+its-name Statistics = refl
+its-name StatisticsError = refl
+its-name SimReset = refl
+its-name KillFederate = refl
+its-name KillAll = refl
+its-name KillModel = refl
+its-name FederateKilled = refl
+its-name FederatesKilled = refl
+
+pub same-name : (c d : Name) → numberOf c ≡ numberOf d → c ≡ d
+same-name c d e = sym (its-name c) ∙ ap (λ (k : ℕ). getD names k StartFederate) e ∙ its-name d
 
 pub rows-have-their-names : Rows-have-their-names
 rows-have-their-names =

@@ -65,10 +65,12 @@ m gives a = record { message = m; gives = a }
 
 unfoldable pub tried : List Example
 tried =
-    -- MC.1: right; delete for new; a field fewer; an int for the long; a word that is none; FM.0
+    -- MC.1: right; delete for new; a field fewer; that, and an int for the long; an int for the long; a word that is
+    -- none; FM.0
     (sent (77 ∷ 67 ∷ 46 ∷ 49 ∷ []) 1 3 (aLong ++ (ended ++ empty)) gives fine 2)
     ∷ (sent (77 ∷ 67 ∷ 46 ∷ 49 ∷ []) 3 3 (aLong ++ (ended ++ empty)) gives refused 21 25)
     ∷ (sent (77 ∷ 67 ∷ 46 ∷ 49 ∷ []) 1 2 (aLong ++ ended) gives refused 21 25)
+    ∷ (sent (77 ∷ 67 ∷ 46 ∷ 49 ∷ []) 1 2 (anInt 1 ++ ended) gives refused 21 25)
     ∷ (sent (77 ∷ 67 ∷ 46 ∷ 49 ∷ []) 1 3 (anInt 1 ++ (ended ++ empty)) gives refused 22 47)
     ∷ (sent (77 ∷ 67 ∷ 46 ∷ 49 ∷ []) 1 3 (aLong ++ (empty ++ empty)) gives refused 23 56)
     ∷ (sent (70 ∷ 77 ∷ 46 ∷ 48 ∷ []) 1 0 [] gives refused 20 25)

@@ -22,6 +22,10 @@ use Rattle.recordings_index.specs.declared.Trailed.the-variants.{Found, Wrong}
 use Rattle.recordings.specs.Recordings.{askedAs}
 use Rattle.recordings.specs.declared.Asked.{Asked}
 use Rattle.recordings.specs.declared.Asked.the-variants.{At, Refused as Asked·Refused}
+use Rattle.commands.specs.Names.{told}
+use Rattle.commands.specs.declared.Commanded.{Commanded}
+use Rattle.commands.specs.declared.Commanded.the-variants.{Is as Command·Is, Refused as Command·Refused}
+use Rattle.commands.proofs.NameLaws.{same-name}
 use Rattle.sim0mq.proofs.refuse.Reads as sim0mq-refuse
 use Rattle.parts.proofs.part.Reads as part
 use Rattle.payload.proofs.payload.Reads as payload
@@ -80,6 +84,7 @@ use Rattle.recordings_writing.proofs.Recorder.new.Reads as recorder-new
 use Rattle.recordings_writing.proofs.Recorder.add.Reads as recorder-add
 use Rattle.recordings_writing.proofs.Recorder.close.Reads as recorder-close
 use Rattle.recordings_salvaging.proofs.salvage.Reads as salvage
+use Rattle.commands.proofs.command.Reads as command
 use Rattle.puts.proofs.bits.Reads as bits
 use Rattle.puts.proofs.put_big.Reads as put-big
 use Rattle.puts.proofs.put_number.Reads as put-number
@@ -155,6 +160,12 @@ asked-apart (At p) (At q) e = let s = fine-eq e in λ i. At (record { start = s 
 asked-apart (At p) (Asked·Refused r) e = absurd (not-fine (sym e))
 asked-apart (Asked·Refused r) (At q) e = absurd (not-fine e)
 asked-apart (Asked·Refused r) (Asked·Refused q) e = ap Asked·Refused (same-refusal r q e)
+
+command-apart : (x y : Commanded) → told x ≡ told y → x ≡ y
+command-apart (Command·Is c) (Command·Is d) e = ap Command·Is (same-name c d (fine-eq e))
+command-apart (Command·Is c) (Command·Refused r) e = absurd (not-fine (sym e))
+command-apart (Command·Refused r) (Command·Is d) e = absurd (not-fine e)
+command-apart (Command·Refused r) (Command·Refused q) e = ap Command·Refused (same-refusal r q e)
 
 fielded-apart : (x y : Fielded) → fielded x ≡ fielded y → x ≡ y
 fielded-apart (Fielded·Accepted f) (Fielded·Accepted g) e =
@@ -391,6 +402,10 @@ salvage-result = equated salvage.Post (λ κs z e. z) _ (λ κs a z e p. p .0)
 
 pub salvage-out : Determines salvage.Post (λ κs z e. now (e .1 .0))
 salvage-out = equated salvage.Post (λ κs z e. now (e .1 .0)) _ (λ κs a z e p. p .1)
+
+-- The call of crate commands.
+pub command-result : Determines command.Post (λ κs z e. z)
+command-result = determined command.Post (λ κs z e. z) (λ κs. told) (λ κs. command-apart) _ (λ κs a z e p. p)
 
 -- The calls of crate puts.
 pub bits-result : Determines bits.Post (λ κs z e. z)
