@@ -3,7 +3,7 @@
 use std::error::Error;
 use std::fmt;
 
-/// Why a call was refused, as one of the nineteen numbers, 1 to 19.
+/// Why a call was refused, as one of the twenty-three numbers, 1 to 23.
 #[derive(Clone, Copy, Debug, PartialEq, Eq, PartialOrd, Ord, Hash)]
 #[repr(u8)]
 pub enum RefusalKind {
@@ -43,15 +43,25 @@ pub enum RefusalKind {
     NoField = 16,
     /// 17: the field is no scalar, or the scalar is none that can be written. The place is 0.
     WrongKind = 17,
-    /// 18: a recording's trailer or index is wrong, or it has more than 4,096 entries. The place is 0.
+    /// 18: a recording's trailer or index is wrong, or it has more than 4,096 entries. The place is
+    /// 0.
     Tail = 18,
     /// 19: a mark's currency code is none of the manual's list. The place is its first byte.
     CurrencyCode = 19,
+    /// 20: the message type is no command's, or no 8-bit string. The place is the type frame.
+    MessageType = 20,
+    /// 21: a command's status or number of fields is wrong. The place is the type frame.
+    CommandShape = 21,
+    /// 22: a command's field has a wrong code, or its mark a wrong unit type. The place is the
+    /// field's code byte.
+    CommandCode = 22,
+    /// 23: a command's string is empty, or none of its words. The place is the field's code byte.
+    CommandText = 23,
 }
 
 impl RefusalKind {
-    /// All nineteen, in the order of their numbers.
-    pub const ALL: [RefusalKind; 19] = [
+    /// All twenty-three, in the order of their numbers.
+    pub const ALL: [RefusalKind; 23] = [
         RefusalKind::EndsEarly,
         RefusalKind::WrongStart,
         RefusalKind::WrongEdition,
@@ -71,15 +81,19 @@ impl RefusalKind {
         RefusalKind::WrongKind,
         RefusalKind::Tail,
         RefusalKind::CurrencyCode,
+        RefusalKind::MessageType,
+        RefusalKind::CommandShape,
+        RefusalKind::CommandCode,
+        RefusalKind::CommandText,
     ];
 
-    /// The kind with this number, or `None` where the number is not 1 to 19.
+    /// The kind with this number, or `None` where the number is not 1 to 23.
     #[must_use]
     pub fn of(number: u8) -> Option<RefusalKind> {
         RefusalKind::ALL.into_iter().find(|kind| kind.number() == number)
     }
 
-    /// Its number, 1 to 19.
+    /// Its number, 1 to 23.
     #[must_use]
     pub const fn number(self) -> u8 {
         self as u8
@@ -108,6 +122,10 @@ impl RefusalKind {
             RefusalKind::WrongKind => "not a scalar that can be asked or written",
             RefusalKind::Tail => "trailer or index of a recording wrong",
             RefusalKind::CurrencyCode => "unknown currency code",
+            RefusalKind::MessageType => "message type that no command has",
+            RefusalKind::CommandShape => "wrong status or number of fields",
+            RefusalKind::CommandCode => "field code that this command cannot have here",
+            RefusalKind::CommandText => "string empty or not of its set of words",
         }
     }
 }
@@ -146,7 +164,7 @@ impl Refusal {
         Refusal { kind, place }
     }
 
-    /// Its number, 1 to 19.
+    /// Its number, 1 to 23.
     #[must_use]
     pub const fn number(self) -> u8 {
         self.kind.number()
