@@ -134,6 +134,7 @@ fn timed(c: usize, u: u8, unit: u8) -> bool
     u == unit
 }
 
+// A basic type: a short, an int, a long or a string.
 fn basic(c: usize) -> bool
     ensures { λ r. ⌜ r ≡ codeTaken (basicOf .codes) c 0 ⌝ }
 {
@@ -159,6 +160,7 @@ fn texts(s: &[u8], want: usize, first: usize, size: usize) -> bool
     }
 }
 
+// Whether it is one of the four words of a status.
 fn state(s: &[u8], first: usize, size: usize) -> bool
     requires { ⌜ first < 4294967296 ⌝ }
     ensures { λ r. ⌜ r ≡ textTaken (stateString .rule) (now (s .entry)) first size ⌝ }
@@ -175,6 +177,7 @@ fn state(s: &[u8], first: usize, size: usize) -> bool
     word(s, first, size, b"error")
 }
 
+// Whether it is one of the two words of MC.4's error.
 fn fault(s: &[u8], first: usize, size: usize) -> bool
     requires { ⌜ first < 4294967296 ⌝ }
     ensures { λ r. ⌜ r ≡ textTaken (faultString .rule) (now (s .entry)) first size ⌝ }
@@ -274,6 +277,7 @@ fn numbered_in(s: &[u8], at: usize, size: usize, ids: &[u8]) -> usize
     k
 }
 
+// The number of the command whose type id these bytes are; 18 where there is none.
 fn numbered(s: &[u8], at: usize, size: usize) -> usize
     requires { ⌜ at < 8589934592 ⌝ }
     ensures { λ r. ⌜ (r ≡ numberFrom (now (s .entry)) at size page 0) × (r ≤ 18) ⌝ }
@@ -324,7 +328,9 @@ fn right(s: &[u8], command: usize, number: u32, i: usize, table: &[u32]) -> bool
 // The fields of a command pass the test of refusal `number`, the earlier first.
 fn each(s: &[u8], command: usize, number: u32, n: usize, table: &[u32]) -> Judged
     requires { ⌜ (command < 18) × (n ≤ 256) × (rowSize * n ≤ length (now table)) ⌝ }
-    ensures { λ r. ⌜ ((fs : List F.Field) → Held (now (table .entry)) n fs → judged r ≡ done (eachOf (now (s .entry)) (rowAt command) number 0 fs)) ⌝ }
+    ensures { λ r.
+        ⌜ ((fs : List F.Field) → Held (now (table .entry)) n fs
+        → judged r ≡ done (eachOf (now (s .entry)) (rowAt command) number 0 fs)) ⌝ }
 {
     let mut i: usize = 0;
     while i < n {
@@ -350,7 +356,9 @@ fn status(command: usize) -> u8
 // The number of a command's fields is right: in FM.2 the sixth says how many pairs follow.
 fn counted(s: &[u8], kind: usize, command: usize, n: usize, table: &[u32]) -> Judged
     requires { ⌜ (command < 18) × (n ≤ 256) × (rowSize * n ≤ length (now table)) ⌝ }
-    ensures { λ r. ⌜ ((fs : List F.Field) → Held (now (table .entry)) n fs → judged r ≡ done (numberRight (now (s .entry)) kind (rowAt command) fs)) ⌝ }
+    ensures { λ r.
+        ⌜ ((fs : List F.Field) → Held (now (table .entry)) n fs
+        → judged r ≡ done (numberRight (now (s .entry)) kind (rowAt command) fs)) ⌝ }
 {
     if command != SIM_RUN_CONTROL {
         if n != count(command) {
@@ -378,7 +386,9 @@ fn counted(s: &[u8], kind: usize, command: usize, n: usize, table: &[u32]) -> Ju
 // The fields of a command: their number, their codes, their strings.
 fn fields(s: &[u8], kind: usize, command: usize, n: usize, table: &[u32]) -> Judged
     requires { ⌜ (command < 18) × (n ≤ 256) × (rowSize * n ≤ length (now table)) ⌝ }
-    ensures { λ r. ⌜ ((fs : List F.Field) → Held (now (table .entry)) n fs → judged r ≡ fieldsRight (now (s .entry)) kind command fs) ⌝ }
+    ensures { λ r.
+        ⌜ ((fs : List F.Field) → Held (now (table .entry)) n fs
+        → judged r ≡ fieldsRight (now (s .entry)) kind command fs) ⌝ }
 {
     match counted(s, kind, command, n, table) {
         Judged::Refused(r) => Judged::Refused(r),
@@ -402,10 +412,13 @@ fn less(a: usize, b: usize) -> usize
     a - b
 }
 
-// The command that a message is whose type frame is at `kind`, has this code and ends at `next`, whose status byte is at `status`, and whose rows the table has.
+// The command that a message is, whose type frame stands at `kind`, has code c and ends at `next`, whose status byte
+// stands at `at`, and whose rows the table has.
 fn judge(s: &[u8], kind: usize, c: usize, next: usize, at: usize, n: usize, table: &[u32]) -> Judged
     requires { ⌜ (kind < 4294967296) × (n ≤ 256) × (rowSize * n ≤ length (now table)) ⌝ }
-    ensures { λ r. ⌜ ((fs : List F.Field) → Held (now (table .entry)) n fs → judged r ≡ commandOf (now (s .entry)) (looksAt kind c next at) fs) ⌝ }
+    ensures { λ r.
+        ⌜ ((fs : List F.Field) → Held (now (table .entry)) n fs
+        → judged r ≡ commandOf (now (s .entry)) (looksAt kind c next at) fs) ⌝ }
 {
     if c != 9 {
         return refuse(20, kind);

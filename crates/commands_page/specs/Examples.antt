@@ -12,7 +12,8 @@ use Rattle.sim0mq.specs.Message.{limit, enough, messageRest, message, reading}
 use Rattle.commands_page.specs.Page.{page, rowAt}
 use Rattle.commands_page.specs.Judging.{standsAt, isWord, isOneOf, codeTaken, textTaken, wantIn, passes, each, turnsRight, numberRight, numberFrom, fieldsRight, rowRight, commandOf, commanded}
 
--- A message of 9 0 0 0 5 SIM01, empty ids, this type id, number 7, this status and this many fields. The type frame is at 25.
+-- A message of 9 0 0 0 5 SIM01, empty ids, this type id, number 7, this status and this many fields. The type frame is
+-- at 25.
 abbrev sent : List ℕ → ℕ → ℕ → List ℕ → List ℕ
 sent id st n fields =
     9 ∷ 0 ∷ 0 ∷ 0 ∷ 5 ∷ 83 ∷ 73 ∷ 77 ∷ 48 ∷ 49
