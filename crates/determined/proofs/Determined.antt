@@ -89,6 +89,7 @@ use Rattle.puts.proofs.bits.Reads as bits
 use Rattle.puts.proofs.put_big.Reads as put-big
 use Rattle.puts.proofs.put_number.Reads as put-number
 use Rattle.encoding.proofs.encode.Reads as encode
+use Rattle.encoding.proofs.mark_taken.Reads as mark-taken
 use Rattle.crossing.proofs.give_read.Reads as give-read
 use Rattle.crossing.proofs.give_length.Reads as give-length
 use Rattle.crossing.proofs.give_view.Reads as give-view
@@ -420,6 +421,9 @@ put-number-out = equated put-number.Post (λ κs z e. now (e .0)) _ (λ κs a z 
 -- The calls of crate encoding.
 pub encode-result : Determines encode.Post (λ κs z e. z)
 encode-result = equated encode.Post (λ κs z e. z) _ (λ κs a z e p. p)
+
+pub mark-taken-result : Determines mark-taken.Post (λ κs z e. z)
+mark-taken-result = equated mark-taken.Post (λ κs z e. z) _ (λ κs a z e p. p)
 
 -- The calls of crate opening.
 pub write-header-result : Determines write-header.Post (λ κs z e. z)

@@ -46,7 +46,7 @@ fn plain(code: u8, n: usize, x: u64) -> Encoded
 }
 
 // Whether reading takes this mark, and gives just these numbers for it.
-fn mark_taken(mark: Mark) -> bool
+pub fn mark_taken(mark: Mark) -> bool
     ensures { λ r. ⌜ r ≡ markTaken mark (kindOf (mark .unit)) ⌝ }
 {
     let unit = wide(mark.unit);
