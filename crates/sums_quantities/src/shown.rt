@@ -1,0 +1,28 @@
+// A number with its display code, and the one addition and the one subtraction of them.
+ghost use mathlib.Core.Path.{_≡_};
+ghost use Rattle.sums_quantities.specs.Numbers.{plus, less};
+
+pub struct Shown {
+    pub value: f64,
+    pub display: u8,
+}
+
+// a + b, rounded once, shown by d.
+pub fn added(a: Shown, b: Shown, d: u8) -> Shown
+    ensures { λ r. ⌜ r ≡ plus a b d ⌝ }
+{
+    Shown {
+        value: a.value + b.value,
+        display: d,
+    }
+}
+
+// a - b, rounded once, shown by d.
+pub fn taken(a: Shown, b: Shown, d: u8) -> Shown
+    ensures { λ r. ⌜ r ≡ less a b d ⌝ }
+{
+    Shown {
+        value: a.value - b.value,
+        display: d,
+    }
+}
