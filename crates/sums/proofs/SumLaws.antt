@@ -1,0 +1,134 @@
+-- How scalars are read and answered, case by case. Only the result has to be tested for 25, since a sum or a difference
+-- with an operand that is infinite or a NaN is itself so.
+use Prim.Native.Nat.{ℕ}
+use mathlib.Core.Path.{_≡_, refl, sym, ap, _∙_}
+use mathlib.Core.Bool.{Bool, true, false, _&&_}
+use mathlib.Core.List.{[], _∷_}
+use lib.Dec.{eqb}
+use lib.Ieee.{Float, binary64}
+use types.Run.{OneOf, miss}
+use denote.Enum.Declared.{tagOf}
+use Rattle.sim0mq.specs.Answer.{Answer, fine, refused, _>>=_, _>>_, guard}
+use Rattle.sim0mq.specs.Mark.{kindOf}
+use Rattle.sim0mq.proofs.Answers.{not-fine, fine-eq, guarded}
+use Rattle.kinds.specs.declared.Mark.{Mark}
+use Rattle.kinds.specs.declared.Scalar.{Scalar}
+use Rattle.kinds.specs.declared.Scalar.the-variants.{Byte, Short, Int, Long, Float as Single, Double, Boolean, Char8, Char16, FloatUnit, DoubleUnit, NotNumber}
+use Rattle.kinds.proofs.Scalar.{the-type}
+use Rattle.encoding.specs.Scalars.{markTaken}
+use Rattle.sums_quantities.specs.declared.shown.Shown.{Shown}
+use Rattle.sums_pairs.specs.Pairs.{Pair, Quantity, relative, absolute, quantityAt, samePair, ofOnePair, summed, differed}
+use Rattle.sums_pairs.specs.Views.{combined}
+use Rattle.sums.specs.Sums.{Measured, measured, finite, isFinite, scalarOf, answer}
+use Rattle.sums.specs.Views.{quantityOf, combinedOf, told, resulting}
+use Rattle.sums.proofs.FloatLaws.{add-strict, sub-strict}
+
+-- a scalar of any case but a double with its mark is refused by 17
+pub no-double : (a : Scalar) → OneOf (0 ∷ 1 ∷ 2 ∷ 3 ∷ 4 ∷ 5 ∷ 6 ∷ 7 ∷ 8 ∷ 9 ∷ 11 ∷ []) (tagOf the-type a) → quantityOf a ≡ refused 17 0
+unfolding quantityOf measured
+no-double (Byte z) h = refl
+no-double (Short z) h = refl
+no-double (Int z) h = refl
+no-double (Long z) h = refl
+no-double (Single x) h = refl
+no-double (Double x) h = refl
+no-double (Boolean b) h = refl
+no-double (Char8 n) h = refl
+no-double (Char16 n) h = refl
+no-double (FloatUnit x m) h = refl
+no-double (DoubleUnit x m) h = absurd (miss (0 ∷ 1 ∷ 2 ∷ 3 ∷ 4 ∷ 5 ∷ 6 ∷ 7 ∷ 8 ∷ 9 ∷ 11 ∷ []) 10 tt h)
+no-double (NotNumber c) h = refl
+
+-- so is one whose mark is not taken; and with a mark that is, it is the quantity of its unit type
+module _ (x : Float) (m : Mark) where
+  pub mark-untaken : markTaken m (kindOf (m .unit)) ≡ false → quantityOf (DoubleUnit x m) ≡ refused 17 0
+  unfolding quantityOf measured
+  mark-untaken e = rw e
+
+  pub mark-taken : markTaken m (kindOf (m .unit)) ≡ true
+      → quantityOf (DoubleUnit x m) ≡ fine (quantityAt (m .unit) (record { value = x; display = m .display }))
+  unfolding quantityOf measured
+  mark-taken e = rw e
+
+-- what is combined, as far as each scalar is a quantity
+module _ (rule : Quantity → Quantity → Answer Quantity) (a b : Scalar) where
+  pub first-refused : (k p : ℕ) → quantityOf a ≡ refused k p → combinedOf rule a b ≡ refused k p
+  unfolding combinedOf
+  first-refused k p e = rw e
+
+  module _ (x : Answer Quantity) (is : quantityOf a ≡ fine x) where
+    pub second-refused : (k p : ℕ) → quantityOf b ≡ refused k p → combinedOf rule a b ≡ refused k p
+    unfolding combinedOf
+    second-refused k p e = rw (is, e)
+
+    pub both-known : (y : Answer Quantity) → quantityOf b ≡ fine y → combinedOf rule a b ≡ combined rule x y
+    unfolding combinedOf
+    both-known y e = rw (is, e)
+
+-- combined by a rule are two of one pair
+pub of-one : (p q : Pair) (u r : Quantity) → ofOnePair p q u ≡ fine r → (samePair p q ≡ true) × (u ≡ r)
+of-one p q u r e = let both = guarded (samePair p q) 24 0 (fine u) e in (both .0, fine-eq (both .1))
+
+-- a rule by which a finite result has finite operands, as the sums and the differences are
+abbrev pub Strict : (Quantity → Quantity → Answer Quantity) → Type 0
+Strict rule = (x y r : Quantity) → rule x y ≡ fine r → isFinite r ≡ true → isFinite x && isFinite y ≡ true
+
+pub sum-strict : Strict summed
+unfolding summed
+sum-strict (relative p x) (relative q y) r e h = add-strict binary64 _ _ (ap isFinite (of-one p q _ r e .1) ∙ h)
+sum-strict (absolute p x) (relative q y) r e h = add-strict binary64 _ _ (ap isFinite (of-one p q _ r e .1) ∙ h)
+sum-strict (relative p x) (absolute q y) r e h = add-strict binary64 _ _ (ap isFinite (of-one p q _ r e .1) ∙ h)
+sum-strict (absolute p x) (absolute q y) r e h = absurd (not-fine e)
+
+pub difference-strict : Strict differed
+unfolding differed
+difference-strict (relative p x) (relative q y) r e h = sub-strict binary64 _ _ (ap isFinite (of-one p q _ r e .1) ∙ h)
+difference-strict (absolute p x) (relative q y) r e h = sub-strict binary64 _ _ (ap isFinite (of-one p q _ r e .1) ∙ h)
+difference-strict (absolute p x) (absolute q y) r e h = sub-strict binary64 _ _ (ap isFinite (of-one p q _ r e .1) ∙ h)
+difference-strict (relative p x) (absolute q y) r e h = absurd (not-fine e)
+
+-- a test that passes wherever another does adds nothing to it
+implied : (b c : Bool) → (c ≡ true → b ≡ true) → b && c ≡ c
+implied true c h = refl
+implied false true h = h refl
+implied false false h = refl
+
+-- by such a rule the answer is what was combined, tested alone
+module _ (rule : Quantity → Quantity → Answer Quantity) (strict : Strict rule) where
+  tested-once : (x y : Quantity) (o : Answer Quantity) → rule x y ≡ o
+      → resulting o ≡ (o >>= λ r. guard (isFinite x && isFinite y && isFinite r) 25 0 >> fine (scalarOf r))
+  unfolding resulting
+  tested-once x y (refused k p) e = refl
+  tested-once x y (fine r) e = rw (implied (isFinite x && isFinite y) (isFinite r) (strict x y r e))
+
+  one-test : (m n : Answer Quantity) → resulting (combined rule m n)
+      ≡ (m >>= λ x. n >>= λ y. rule x y >>= λ r. guard (isFinite x && isFinite y && isFinite r) 25 0 >> fine (scalarOf r))
+  unfolding resulting
+  one-test (refused k p) n = refl
+  one-test (fine x) (refused k p) = refl
+  one-test (fine x) (fine y) = tested-once x y (rule x y) refl
+
+  both-read : (m n : Answer Measured)
+      → resulting ((m >>= λ u. fine (quantityAt (u .unit) (u .number))) >>= λ x.
+      (n >>= λ v. fine (quantityAt (v .unit) (v .number))) >>= λ y. combined rule x y)
+      ≡ (m >>= λ u. n >>= λ v. quantityAt (u .unit) (u .number) >>= λ x. quantityAt (v .unit) (v .number) >>= λ y.
+      rule x y >>= λ r. guard (isFinite x && isFinite y && isFinite r) 25 0 >> fine (scalarOf r))
+  unfolding resulting
+  both-read (refused k p) n = refl
+  both-read (fine u) (refused k p) = refl
+  both-read (fine u) (fine v) = one-test (quantityAt (u .unit) (u .number)) (quantityAt (v .unit) (v .number))
+
+  pub answered : (a b : Scalar) (o : Answer Quantity) → o ≡ combinedOf rule a b → resulting o ≡ answer rule a b
+  unfolding answer combinedOf quantityOf
+  answered a b o e = ap resulting e ∙ both-read (measured a) (measured b)
+
+-- a number as a scalar, where it is finite and where it is not
+module _ (u : ℕ) (x : Shown) where
+  pub not-finite : finite (x .value) ≡ false → told u x ≡ refused 25 0
+  unfolding told
+  not-finite e = rw e
+
+  pub is-finite : finite (x .value) ≡ true
+      → told u x ≡ fine (DoubleUnit (x .value) (record { unit = u; currency = 0; display = x .display }))
+  unfolding told
+  is-finite e = rw e

@@ -1,0 +1,64 @@
+-- The sum and the difference of two scalars (02, Ticket 12).
+use Prim.Native.Nat.{ℕ}
+use mathlib.Core.Bool.{Bool, true, false, _&&_}
+use lib.Ieee.{Float, nan, inf, fin}
+use Rattle.sim0mq.specs.Answer.{Answer, fine, refused, _>>=_, _>>_, guard}
+use Rattle.sim0mq.specs.Mark.{kindOf}
+use Rattle.kinds.specs.declared.Scalar.{Scalar}
+use Rattle.kinds.specs.declared.Scalar.the-variants.{Byte, Short, Int, Long, Float as Single, Double, Boolean, Char8, Char16, FloatUnit, DoubleUnit, NotNumber}
+use Rattle.encoding.specs.Scalars.{markTaken}
+use Rattle.sums_quantities.specs.declared.shown.Shown.{Shown}
+use Rattle.sums_pairs.specs.Pairs.{Quantity, unitOf, numberOf, quantityAt, summed, differed}
+
+-- A double with its unit: the unit type, and the number with its display code.
+pub record Measured : Type 0 where
+  pub unit : ℕ
+  pub number : Shown
+
+-- The double with its unit that a scalar is; 17 where it is none, or its mark is none that reading gives.
+unfoldable pub measured : Scalar → Answer Measured
+measured (Byte z) = refused 17 0
+measured (Short z) = refused 17 0
+measured (Int z) = refused 17 0
+measured (Long z) = refused 17 0
+measured (Single x) = refused 17 0
+measured (Double x) = refused 17 0
+measured (Boolean b) = refused 17 0
+measured (Char8 n) = refused 17 0
+measured (Char16 n) = refused 17 0
+measured (FloatUnit x m) = refused 17 0
+measured (DoubleUnit x m) = do
+  guard (markTaken m (kindOf (m .unit))) 17 0
+  fine (record { unit = m .unit; number = record { value = x; display = m .display } })
+measured (NotNumber c) = refused 17 0
+
+-- The scalar that a quantity is; its mark has no currency.
+abbrev pub scalarOf : Quantity → Scalar
+scalarOf q = DoubleUnit (numberOf q .value) (record { unit = unitOf q; currency = 0; display = numberOf q .display })
+
+-- Neither infinite nor a NaN.
+unfoldable pub finite : Float → Bool
+finite nan = false
+finite (inf s) = false
+finite (fin s m e) = true
+
+abbrev pub isFinite : Quantity → Bool
+isFinite q = finite (numberOf q .value)
+
+-- The answer for two scalars by a rule: 17 for each, then 24, then 25 where an operand or the result is infinite or
+-- holds a NaN.
+unfoldable pub answer : (Quantity → Quantity → Answer Quantity) → Scalar → Scalar → Answer Scalar
+answer rule a b = do
+  m ← measured a
+  n ← measured b
+  x ← quantityAt (m .unit) (m .number)
+  y ← quantityAt (n .unit) (n .number)
+  r ← rule x y
+  guard (isFinite x && isFinite y && isFinite r) 25 0
+  fine (scalarOf r)
+
+abbrev pub sumOf : Scalar → Scalar → Answer Scalar
+sumOf = answer summed
+
+abbrev pub differenceOf : Scalar → Scalar → Answer Scalar
+differenceOf = answer differed
