@@ -1,27 +1,25 @@
 -- How scalars are read and answered, case by case. Only the result has to be tested for 25, since a sum or a difference
 -- with an operand that is infinite or a NaN is itself so.
 use Prim.Native.Nat.{ℕ}
-use mathlib.Core.Path.{_≡_, refl, sym, ap, _∙_}
+use mathlib.Core.Path.{_≡_, refl, ap, _∙_}
 use mathlib.Core.Bool.{Bool, true, false, _&&_}
 use mathlib.Core.List.{[], _∷_}
-use lib.Dec.{eqb}
-use lib.Ieee.{Float, binary64}
+use lib.Ieee.{Float}
 use types.Run.{OneOf, miss}
 use denote.Enum.Declared.{tagOf}
 use Rattle.sim0mq.specs.Answer.{Answer, fine, refused, _>>=_, _>>_, guard}
 use Rattle.sim0mq.specs.Mark.{kindOf}
-use Rattle.sim0mq.proofs.Answers.{not-fine, fine-eq, guarded}
 use Rattle.kinds.specs.declared.Mark.{Mark}
 use Rattle.kinds.specs.declared.Scalar.{Scalar}
 use Rattle.kinds.specs.declared.Scalar.the-variants.{Byte, Short, Int, Long, Float as Single, Double, Boolean, Char8, Char16, FloatUnit, DoubleUnit, NotNumber}
 use Rattle.kinds.proofs.Scalar.{the-type}
 use Rattle.encoding.specs.Scalars.{markTaken}
 use Rattle.sums_quantities.specs.declared.shown.Shown.{Shown}
-use Rattle.sums_pairs.specs.Pairs.{Pair, Quantity, relative, absolute, quantityAt, samePair, ofOnePair, summed, differed}
+use Rattle.sums_pairs.specs.Pairs.{Quantity, quantityAt}
 use Rattle.sums_pairs.specs.Views.{combined}
 use Rattle.sums.specs.Sums.{Measured, measured, finite, isFinite, scalarOf, answer}
 use Rattle.sums.specs.Views.{quantityOf, combinedOf, told, resulting}
-use Rattle.sums.proofs.FloatLaws.{add-strict, sub-strict}
+use Rattle.sums.proofs.RuleLaws.{IsRule, Strict, rule-strict}
 
 -- a scalar of any case but a double with its mark is refused by 17
 pub no-double : (a : Scalar) → OneOf (0 ∷ 1 ∷ 2 ∷ 3 ∷ 4 ∷ 5 ∷ 6 ∷ 7 ∷ 8 ∷ 9 ∷ 11 ∷ []) (tagOf the-type a) → quantityOf a ≡ refused 17 0
@@ -65,41 +63,19 @@ module _ (rule : Quantity → Quantity → Answer Quantity) (a b : Scalar) where
     unfolding combinedOf
     both-known y e = rw (is, e)
 
--- combined by a rule are two of one pair
-pub of-one : (p q : Pair) (u r : Quantity) → ofOnePair p q u ≡ fine r → (samePair p q ≡ true) × (u ≡ r)
-of-one p q u r e = let both = guarded (samePair p q) 24 0 (fine u) e in (both .0, fine-eq (both .1))
-
--- a rule by which a finite result has finite operands, as the sums and the differences are
-abbrev pub Strict : (Quantity → Quantity → Answer Quantity) → Type 0
-Strict rule = (x y r : Quantity) → rule x y ≡ fine r → isFinite r ≡ true → isFinite x && isFinite y ≡ true
-
-pub sum-strict : Strict summed
-unfolding summed
-sum-strict (relative p x) (relative q y) r e h = add-strict binary64 _ _ (ap isFinite (of-one p q _ r e .1) ∙ h)
-sum-strict (absolute p x) (relative q y) r e h = add-strict binary64 _ _ (ap isFinite (of-one p q _ r e .1) ∙ h)
-sum-strict (relative p x) (absolute q y) r e h = add-strict binary64 _ _ (ap isFinite (of-one p q _ r e .1) ∙ h)
-sum-strict (absolute p x) (absolute q y) r e h = absurd (not-fine e)
-
-pub difference-strict : Strict differed
-unfolding differed
-difference-strict (relative p x) (relative q y) r e h = sub-strict binary64 _ _ (ap isFinite (of-one p q _ r e .1) ∙ h)
-difference-strict (absolute p x) (relative q y) r e h = sub-strict binary64 _ _ (ap isFinite (of-one p q _ r e .1) ∙ h)
-difference-strict (absolute p x) (absolute q y) r e h = sub-strict binary64 _ _ (ap isFinite (of-one p q _ r e .1) ∙ h)
-difference-strict (relative p x) (absolute q y) r e h = absurd (not-fine e)
-
 -- a test that passes wherever another does adds nothing to it
 implied : (b c : Bool) → (c ≡ true → b ≡ true) → b && c ≡ c
 implied true c h = refl
 implied false true h = h refl
 implied false false h = refl
 
--- by such a rule the answer is what was combined, tested alone
-module _ (rule : Quantity → Quantity → Answer Quantity) (strict : Strict rule) where
+-- by a rule whose operation is strict the answer is what was combined, tested alone
+module _ (rule : Quantity → Quantity → Answer Quantity) (op : Float → Float → Float) (is : IsRule op rule) (strict : Strict op) where
   tested-once : (x y : Quantity) (o : Answer Quantity) → rule x y ≡ o
       → resulting o ≡ (o >>= λ r. guard (isFinite x && isFinite y && isFinite r) 25 0 >> fine (scalarOf r))
   unfolding resulting
   tested-once x y (refused k p) e = refl
-  tested-once x y (fine r) e = rw (implied (isFinite x && isFinite y) (isFinite r) (strict x y r e))
+  tested-once x y (fine r) e = rw (implied (isFinite x && isFinite y) (isFinite r) (rule-strict op strict x y r (is x y) e))
 
   one-test : (m n : Answer Quantity) → resulting (combined rule m n)
       ≡ (m >>= λ x. n >>= λ y. rule x y >>= λ r. guard (isFinite x && isFinite y && isFinite r) 25 0 >> fine (scalarOf r))

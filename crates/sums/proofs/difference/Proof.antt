@@ -1,9 +1,12 @@
 -- What the two scalars were read as is combined, and only the difference is tested for 25.
 use borrow.Author.Needs.{needs}
+use lib.Ieee.{binary64}
 use mathlib.Core.Path.{sym, ap, _∙_}
 use Rattle.sums_pairs.specs.Pairs.{differed}
 use Rattle.sums.specs.Views.{combinedAs, resulting}
-use Rattle.sums.proofs.SumLaws.{answered, difference-strict}
+use Rattle.sums.proofs.FloatLaws.{sub-strict}
+use Rattle.sums.proofs.RuleLaws.{difference-rule}
+use Rattle.sums.proofs.SumLaws.{answered}
 use Rattle.sums.proofs.difference.Statement.{statement}
 use Rattle.sums.proofs.difference.Tie as tie
 
@@ -29,7 +32,7 @@ returns : tie.Need-returns
 returns c =
     let w = c .before .before .before in
     c .result .ensures
-    ∙ answered differed difference-strict _ _ _
+    ∙ answered differed _ difference-rule (sub-strict binary64) _ _ _
     (c .before .subtract .ensures ∙ ap (combinedAs differed) (sym (w .x .given .1)) ∙ w .before .before .operands .ensures differed)
 
 returns-2 : tie.Need-returns-2
@@ -37,7 +40,7 @@ unfolding resulting
 returns-2 c =
     let w = c .before in
     c .refuse .ensures
-    ∙ answered differed difference-strict _ _ _ (ap (combinedAs differed) (sym (w .enum-told .given .1)) ∙ w .before .before .operands .ensures differed)
+    ∙ answered differed _ difference-rule (sub-strict binary64) _ _ _ (ap (combinedAs differed) (sym (w .enum-told .given .1)) ∙ w .before .before .operands .ensures differed)
 
 pub difference-spec : {M : Type 1} → statement M
 difference-spec =

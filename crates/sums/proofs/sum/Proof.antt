@@ -1,9 +1,12 @@
 -- What the two scalars were read as is combined, and only the sum is tested for 25.
 use borrow.Author.Needs.{needs}
+use lib.Ieee.{binary64}
 use mathlib.Core.Path.{sym, ap, _∙_}
 use Rattle.sums_pairs.specs.Pairs.{summed}
 use Rattle.sums.specs.Views.{combinedAs, resulting}
-use Rattle.sums.proofs.SumLaws.{answered, sum-strict}
+use Rattle.sums.proofs.FloatLaws.{add-strict}
+use Rattle.sums.proofs.RuleLaws.{sum-rule}
+use Rattle.sums.proofs.SumLaws.{answered}
 use Rattle.sums.proofs.sum.Statement.{statement}
 use Rattle.sums.proofs.sum.Tie as tie
 
@@ -29,7 +32,7 @@ returns : tie.Need-returns
 returns c =
     let w = c .before .before .before in
     c .result .ensures
-    ∙ answered summed sum-strict _ _ _
+    ∙ answered summed _ sum-rule (add-strict binary64) _ _ _
     (c .before .add .ensures ∙ ap (combinedAs summed) (sym (w .x .given .1)) ∙ w .before .before .operands .ensures summed)
 
 returns-2 : tie.Need-returns-2
@@ -37,7 +40,7 @@ unfolding resulting
 returns-2 c =
     let w = c .before in
     c .refuse .ensures
-    ∙ answered summed sum-strict _ _ _ (ap (combinedAs summed) (sym (w .enum-told .given .1)) ∙ w .before .before .operands .ensures summed)
+    ∙ answered summed _ sum-rule (add-strict binary64) _ _ _ (ap (combinedAs summed) (sym (w .enum-told .given .1)) ∙ w .before .before .operands .ensures summed)
 
 pub sum-spec : {M : Type 1} → statement M
 sum-spec =
