@@ -15,19 +15,14 @@ use Rattle.kinds.specs.declared.Scalar.{Scalar}
 use Rattle.sums_quantities.specs.declared.shown.Shown.{Shown}
 use Rattle.sums_pairs.specs.Pairs.{Pair, pairs, Quantity, quantityIn, quantityAt, summed, differed}
 use Rattle.sums_pairs.specs.Views.{combined}
-use Rattle.sums.specs.Sums.{Measured, measured, isFinite, scalarOf, answer}
+use Rattle.sums.specs.Sums.{Measured, measured, isFinite, scalarOf, answerOf, answer}
 use Rattle.sums.specs.Promises.{addsIn, subtractsIn}
 use Rattle.sums.proofs.RuleLaws.{Ruled, refuses, combines, IsRule}
 use Rattle.sums.proofs.ReadLaws.{found, found-none}
 
--- the answer for two numbers of these unit types
-abbrev pub answerAt : (Quantity → Quantity → Answer Quantity) → Measured → Measured → Answer Scalar
-answerAt rule m n =
-    quantityAt (m .unit) (m .number) >>= λ x. quantityAt (n .unit) (n .number) >>= λ y.
-    rule x y >>= λ r. guard (isFinite x && isFinite y && isFinite r) 25 0 >> fine (scalarOf r)
-
+-- the answer, as far as each scalar is an operand
 module _ (rule : Quantity → Quantity → Answer Quantity) (a b : Scalar) where
-  pub answer-at : (m n : Measured) → measured a ≡ fine m → measured b ≡ fine n → answer rule a b ≡ answerAt rule m n
+  pub answer-at : (m n : Measured) → measured a ≡ fine m → measured b ≡ fine n → answer rule a b ≡ answerOf rule m n
   unfolding answer
   answer-at m n e f = rw (e, f)
 
@@ -123,10 +118,10 @@ differences-agree =
 
 -- what the answer is
 pub data Outcome (rule : Quantity → Quantity → Answer Quantity) (page : ℕ → ℕ → Bool) (m n : Measured) : Type 0 where
-  apart : page (m .unit) (n .unit) ≡ false → answerAt rule m n ≡ refused 24 0 → Outcome rule page m n
+  apart : page (m .unit) (n .unit) ≡ false → answerOf rule m n ≡ refused 24 0 → Outcome rule page m n
   tested : (x y r : Quantity) → quantityAt (m .unit) (m .number) ≡ fine x → quantityAt (n .unit) (n .number) ≡ fine y → rule x y ≡ fine r
       → page (m .unit) (n .unit) ≡ true
-      → answerAt rule m n ≡ (guard (isFinite x && isFinite y && isFinite r) 25 0 >> fine (scalarOf r)) → Outcome rule page m n
+      → answerOf rule m n ≡ (guard (isFinite x && isFinite y && isFinite r) 25 0 >> fine (scalarOf r)) → Outcome rule page m n
 
 module _ (rule : Quantity → Quantity → Answer Quantity) (page : ℕ → ℕ → Bool) (agrees : Agrees rule page) (op : Float → Float → Float)
     (is : IsRule op rule) (m n : Measured) where

@@ -23,12 +23,12 @@ use Rattle.returning.proofs.ScalarLaws.{scalar-back}
 use Rattle.sums_quantities.specs.Numbers.{plus, less}
 use Rattle.sums_quantities.specs.declared.shown.Shown.{Shown}
 use Rattle.sums_pairs.specs.Pairs.{Pair, pairs, Quantity, relative, absolute, unitOf, numberOf, quantityIn, quantityAt, samePair, summed, differed}
-use Rattle.sums.specs.Sums.{Measured, measured, finite, isFinite, scalarOf, answer}
+use Rattle.sums.specs.Sums.{Measured, measured, finite, isFinite, scalarOf, answerOf, answer}
 use Rattle.sums.specs.Promises.{Relative, Absolute, Absolutes-are-never-added, Either-order, Difference-adds-back, ComesBack, Result-comes-back, addsIn, subtractsIn, NoOperand, Refuses, Refusals-in-order}
 use Rattle.sums.proofs.FloatLaws.{add-swapped}
 use Rattle.sums.proofs.RuleLaws.{valueOf, IsGiven, Ruled, refuses, combines, IsRule, sum-rule, difference-rule}
 use Rattle.sums.proofs.ReadLaws.{shownOf, IsRead, operand, noOperand, is-read, found, found-is, markOf, given-mark, given-at, operand-given}
-use Rattle.sums.proofs.AnswerLaws.{answerAt, answer-at, answer-first, answer-second, Agrees, sums-agree, differences-agree, Outcome, apart, tested, outcome}
+use Rattle.sums.proofs.AnswerLaws.{answer-at, answer-first, answer-second, Agrees, sums-agree, differences-agree, Outcome, apart, tested, outcome}
 
 -- equal refusals have equal numbers and places
 same-number : {A : Type 0} {k l p q : ℕ} → _≡_ {A = Answer A} (refused k p) (refused l q) → (k ≡ l) × (p ≡ q)
@@ -74,7 +74,7 @@ module _ (rule : Quantity → Quantity → Answer Quantity) (page : ℕ → ℕ 
     abbrev right : Measured
     right = record { unit = n .unit; number = shownOf y n }
 
-    is-answer : answer rule (DoubleUnit x m) (DoubleUnit y n) ≡ answerAt rule left right
+    is-answer : answer rule (DoubleUnit x m) (DoubleUnit y n) ≡ answerOf rule left right
     unfolding measured
     is-answer = answer-at rule _ _ left right (rw s) (rw t)
 
@@ -119,7 +119,7 @@ module _ (rule : Quantity → Quantity → Answer Quantity) (page : ℕ → ℕ 
       is-listed : (l : ℕ) → (l ≡ k) × (0 ≡ p) → among l (17 ∷ 24 ∷ 25 ∷ []) ≡ true → (among k (17 ∷ 24 ∷ 25 ∷ []) ≡ true) × (p ≡ 0)
       is-listed l s h = (ap (λ (i : ℕ). among i (17 ∷ 24 ∷ 25 ∷ [])) (sym (s .0)) ∙ h, sym (s .1))
 
-      two : (m n : Measured) → answer rule a b ≡ answerAt rule m n → Outcome rule page m n → (among k (17 ∷ 24 ∷ 25 ∷ []) ≡ true) × (p ≡ 0)
+      two : (m n : Measured) → answer rule a b ≡ answerOf rule m n → Outcome rule page m n → (among k (17 ∷ 24 ∷ 25 ∷ []) ≡ true) × (p ≡ 0)
       two m n i (apart h f) = is-listed 24 (same-number (sym f ∙ sym i ∙ e)) refl
       two m n i (tested x y r u v g h f) =
           is-listed 25 (guard-number (isFinite x && isFinite y && isFinite r) (scalarOf r) k p (sym f ∙ sym i ∙ e)) refl
@@ -133,7 +133,7 @@ module _ (rule : Quantity → Quantity → Answer Quantity) (page : ℕ → ℕ 
   no-operand : (a b : Scalar) → answer rule a b ≡ refused 17 0 → NoOperand a ⊎ NoOperand b
   no-operand a b e = go (is-read a) (is-read b)
     where
-      two : (m n : Measured) → answer rule a b ≡ answerAt rule m n → Outcome rule page m n → ⊥
+      two : (m n : Measured) → answer rule a b ≡ answerOf rule m n → Outcome rule page m n → ⊥
       two m n i (apart h f) = let z : _≡_ {A = ℕ} 24 17 = same-number (sym f ∙ sym i ∙ e) .0 in omega arith
       two m n i (tested x y r u v g h f) =
           let z : _≡_ {A = ℕ} 25 17 = guard-number (isFinite x && isFinite y && isFinite r) (scalarOf r) 17 0 (sym f ∙ sym i ∙ e) .0 in omega arith
@@ -205,7 +205,7 @@ module _ (rule : Quantity → Quantity → Answer Quantity) (page : ℕ → ℕ 
           }
 
       two : (x y : Float) (m n : Mark) → markTaken m (kindOf (m .unit)) ≡ true → markTaken n (kindOf (n .unit)) ≡ true
-          → answer rule a b ≡ answerAt rule (record { unit = m .unit; number = shownOf x m }) (record { unit = n .unit; number = shownOf y n })
+          → answer rule a b ≡ answerOf rule (record { unit = m .unit; number = shownOf x m }) (record { unit = n .unit; number = shownOf y n })
           → Outcome rule page (record { unit = m .unit; number = shownOf x m }) (record { unit = n .unit; number = shownOf y n }) → Gives op r
       two x y m n s t i (apart h f) = absurd (not-fine (sym f ∙ sym i ∙ e))
       two x y m n s t i (tested c d q u v g h f) =
@@ -312,9 +312,9 @@ either-order x y m n u v = go (markTaken m (kindOf (m .unit))) (markTaken n (kin
 
     go : (b c : Bool)
         → ((guard b 17 0 >> fine (record { unit = m .unit; number = shownOf x m })) >>= λ i.
-        (guard c 17 0 >> fine (record { unit = n .unit; number = shownOf y n })) >>= λ j. answerAt summed i j)
+        (guard c 17 0 >> fine (record { unit = n .unit; number = shownOf y n })) >>= λ j. answerOf summed i j)
         ≡ ((guard c 17 0 >> fine (record { unit = n .unit; number = shownOf y n })) >>= λ j.
-        (guard b 17 0 >> fine (record { unit = m .unit; number = shownOf x m })) >>= λ i. answerAt summed j i)
+        (guard b 17 0 >> fine (record { unit = m .unit; number = shownOf x m })) >>= λ i. answerOf summed j i)
     go true true =
         let a = absolute-at (m .unit) (shownOf x m) u in
         let b = relative-at (n .unit) (shownOf y n) v in
@@ -376,7 +376,7 @@ module _ (x y : Float) (m n : Mark) (s : markTaken m (kindOf (m .unit)) ≡ true
   taken-back d e = go (outcome differed (subtractsIn pairs) differences-agree (sub binary64) difference-rule _ _)
     where
       is : answer differed (DoubleUnit x m) (DoubleUnit y n)
-          ≡ answerAt differed (record { unit = m .unit; number = shownOf x m }) (record { unit = n .unit; number = shownOf y n })
+          ≡ answerOf differed (record { unit = m .unit; number = shownOf x m }) (record { unit = n .unit; number = shownOf y n })
       is = is-answer differed (subtractsIn pairs) differences-agree (sub binary64) difference-rule x y m n s t
 
       go : Outcome differed (subtractsIn pairs) (record { unit = m .unit; number = shownOf x m }) (record { unit = n .unit; number = shownOf y n })

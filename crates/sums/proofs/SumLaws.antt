@@ -17,7 +17,7 @@ use Rattle.encoding.specs.Scalars.{markTaken}
 use Rattle.sums_quantities.specs.declared.shown.Shown.{Shown}
 use Rattle.sums_pairs.specs.Pairs.{Quantity, quantityAt}
 use Rattle.sums_pairs.specs.Views.{combined}
-use Rattle.sums.specs.Sums.{Measured, measured, finite, isFinite, scalarOf, answer}
+use Rattle.sums.specs.Sums.{Measured, measured, finite, isFinite, scalarOf, answerOf, answer}
 use Rattle.sums.specs.Views.{quantityOf, combinedOf, told, resulting}
 use Rattle.sums.proofs.RuleLaws.{IsRule, Strict, rule-strict}
 
@@ -87,8 +87,7 @@ module _ (rule : Quantity → Quantity → Answer Quantity) (op : Float → Floa
   both-read : (m n : Answer Measured)
       → resulting ((m >>= λ u. fine (quantityAt (u .unit) (u .number))) >>= λ x.
       (n >>= λ v. fine (quantityAt (v .unit) (v .number))) >>= λ y. combined rule x y)
-      ≡ (m >>= λ u. n >>= λ v. quantityAt (u .unit) (u .number) >>= λ x. quantityAt (v .unit) (v .number) >>= λ y.
-      rule x y >>= λ r. guard (isFinite x && isFinite y && isFinite r) 25 0 >> fine (scalarOf r))
+      ≡ (m >>= λ u. n >>= λ v. answerOf rule u v)
   unfolding resulting
   both-read (refused k p) n = refl
   both-read (fine u) (refused k p) = refl

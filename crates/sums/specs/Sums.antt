@@ -45,17 +45,22 @@ finite (fin s m e) = true
 abbrev pub isFinite : Quantity → Bool
 isFinite q = finite (numberOf q .value)
 
--- The answer for two scalars by a rule: 17 for each, then 24, then 25 where an operand or the result is infinite or
--- holds a NaN.
-unfoldable pub answer : (Quantity → Quantity → Answer Quantity) → Scalar → Scalar → Answer Scalar
-answer rule a b = do
-  m ← measured a
-  n ← measured b
+-- The answer for two doubles with their units by a rule: 24, then 25 where an operand or the result is infinite or holds
+-- a NaN.
+abbrev pub answerOf : (Quantity → Quantity → Answer Quantity) → Measured → Measured → Answer Scalar
+answerOf rule m n = do
   x ← quantityAt (m .unit) (m .number)
   y ← quantityAt (n .unit) (n .number)
   r ← rule x y
   guard (isFinite x && isFinite y && isFinite r) 25 0
   fine (scalarOf r)
+
+-- And for two scalars: 17 for each, before all else.
+unfoldable pub answer : (Quantity → Quantity → Answer Quantity) → Scalar → Scalar → Answer Scalar
+answer rule a b = do
+  m ← measured a
+  n ← measured b
+  answerOf rule m n
 
 abbrev pub sumOf : Scalar → Scalar → Answer Scalar
 sumOf = answer summed
