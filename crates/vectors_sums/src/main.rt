@@ -38,23 +38,34 @@ fn refused(r: Refusal) {
     figure(b" at ", r.place as u64);
 }
 
-// Writes a double, by its bits, with its mark.
-fn double(x: f64, mark: Mark) {
+// Writes a mark.
+fn marked(mark: Mark) {
+    figure(b" unit ", mark.unit as u64);
+    figure(b" currency ", mark.currency as u64);
+    figure(b" display ", mark.display as u64);
+}
+
+// Writes a double by its bits.
+fn double(x: f64) {
     if x != x {
         say(b" a NaN");
         return;
     }
-    figure(b" double ", f64::to_bits(x));
-    figure(b" unit ", mark.unit as u64);
-    figure(b" currency ", mark.currency as u64);
-    figure(b" display ", mark.display as u64);
+    let bits = f64::to_bits(x);
+    figure(b" double ", bits);
+}
+
+// Writes a double with its mark.
+fn measured(x: f64, mark: Mark) {
+    double(x);
+    marked(mark);
 }
 
 // Writes what a sum or a difference is.
 fn told(answer: Value) {
     match answer {
         Value::Is(v) => match v {
-            Scalar::DoubleUnit(x, mark) => double(x, mark),
+            Scalar::DoubleUnit(x, mark) => measured(x, mark),
             _ => say(b" no double with a unit"),
         },
         Value::Refused(r) => refused(r),
