@@ -1,7 +1,9 @@
 -- The contract of a public call is an equation for its result and for each buffer that it may write, so any two outcomes that it allows are equal.
 use mathlib.Core.Path.{_≡_, refl, ap, sym, _∙_}
+use mathlib.Core.Bool.{cond}
+use lib.Dec.{eqb}
 use denote.Ref.{now}
-use Rattle.sim0mq.specs.Answer.{Answer, refused}
+use Rattle.sim0mq.specs.Answer.{Answer, fine, refused}
 use Rattle.sim0mq.specs.Views.{judged}
 use Rattle.sim0mq.specs.declared.Refusal.{Refusal}
 use Rattle.sim0mq.specs.declared.Judged.{Judged}
@@ -26,6 +28,20 @@ use Rattle.commands.specs.Names.{told}
 use Rattle.commands.specs.declared.Commanded.{Commanded}
 use Rattle.commands.specs.declared.Commanded.the-variants.{Is as Command·Is, Refused as Command·Refused}
 use Rattle.commands.proofs.NameLaws.{same-name}
+use Rattle.sums_quantities.specs.declared.angles.Angle.{Angle}
+use Rattle.sums_quantities.specs.declared.angles.Direction.{Direction}
+use Rattle.sums_quantities.specs.declared.durations.Duration.{Duration}
+use Rattle.sums_quantities.specs.declared.durations.Time.{Time}
+use Rattle.sums_quantities.specs.declared.lengths.Length.{Length}
+use Rattle.sums_quantities.specs.declared.lengths.Position.{Position}
+use Rattle.sums_quantities.specs.declared.temperatures.AbsoluteTemperature.{AbsoluteTemperature}
+use Rattle.sums_quantities.specs.declared.temperatures.Temperature.{Temperature}
+use Rattle.sums_pairs.specs.Pairs as Pairs
+use Rattle.sums_pairs.specs.Pairs.{relative, absolute}
+use Rattle.sums_pairs.specs.Views.{seen}
+use Rattle.sums_pairs.specs.declared.Quantity.{Quantity}
+use Rattle.sums_pairs.specs.declared.Quantity.the-variants.{Other}
+use Rattle.sums_pairs.specs.declared.Quantity.the-variants as Q
 use Rattle.sim0mq.proofs.refuse.Reads as sim0mq-refuse
 use Rattle.parts.proofs.part.Reads as part
 use Rattle.payload.proofs.payload.Reads as payload
@@ -96,6 +112,37 @@ use Rattle.crossing.proofs.give_view.Reads as give-view
 use Rattle.writer_crossing.proofs.give_wrote.Reads as give-wrote
 use Rattle.writer_crossing.proofs.writer_of.Reads as writer-of
 use Rattle.writer_crossing.proofs.count_type.Reads as count-type
+use Rattle.sums_quantities.proofs.lengths.Length.plus.Reads as length-plus
+use Rattle.sums_quantities.proofs.lengths.Length.plus_position.Reads as length-plus-position
+use Rattle.sums_quantities.proofs.lengths.Length.less.Reads as length-less
+use Rattle.sums_quantities.proofs.lengths.Position.plus.Reads as position-plus
+use Rattle.sums_quantities.proofs.lengths.Position.less.Reads as position-less
+use Rattle.sums_quantities.proofs.lengths.Position.less_position.Reads as position-less-position
+use Rattle.sums_quantities.proofs.durations.Duration.plus.Reads as duration-plus
+use Rattle.sums_quantities.proofs.durations.Duration.plus_time.Reads as duration-plus-time
+use Rattle.sums_quantities.proofs.durations.Duration.less.Reads as duration-less
+use Rattle.sums_quantities.proofs.durations.Time.plus.Reads as time-plus
+use Rattle.sums_quantities.proofs.durations.Time.less.Reads as time-less
+use Rattle.sums_quantities.proofs.durations.Time.less_time.Reads as time-less-time
+use Rattle.sums_quantities.proofs.angles.Angle.plus.Reads as angle-plus
+use Rattle.sums_quantities.proofs.angles.Angle.plus_direction.Reads as angle-plus-direction
+use Rattle.sums_quantities.proofs.angles.Angle.less.Reads as angle-less
+use Rattle.sums_quantities.proofs.angles.Direction.plus.Reads as direction-plus
+use Rattle.sums_quantities.proofs.angles.Direction.less.Reads as direction-less
+use Rattle.sums_quantities.proofs.angles.Direction.less_direction.Reads as direction-less-direction
+use Rattle.sums_quantities.proofs.temperatures.Temperature.plus.Reads as temperature-plus
+use Rattle.sums_quantities.proofs.temperatures.Temperature.plus_absolute_temperature.Reads as temperature-plus-absolute-temperature
+use Rattle.sums_quantities.proofs.temperatures.Temperature.less.Reads as temperature-less
+use Rattle.sums_quantities.proofs.temperatures.AbsoluteTemperature.plus.Reads as absolute-temperature-plus
+use Rattle.sums_quantities.proofs.temperatures.AbsoluteTemperature.less.Reads as absolute-temperature-less
+use Rattle.sums_quantities.proofs.temperatures.AbsoluteTemperature.less_absolute_temperature.Reads as absolute-temperature-less-absolute-temperature
+use Rattle.sums_quantities.proofs.shown.added.Reads as added
+use Rattle.sums_quantities.proofs.shown.taken.Reads as taken
+use Rattle.sums_pairs.proofs.quantity_of.Reads as quantity-of
+use Rattle.sums_pairs.proofs.add.Reads as add-quantities
+use Rattle.sums_pairs.proofs.subtract.Reads as subtract-quantities
+use Rattle.sums.proofs.sum.Reads as sum
+use Rattle.sums.proofs.difference.Reads as difference
 use Rattle.casting.proofs.give_value.Reads as give-value
 use Rattle.casting.proofs.scalar_from.Reads as scalar-from
 use Rattle.giving.proofs.give.Reads as give
@@ -189,6 +236,58 @@ valued-apart (Is v) (Is w) e = cc
 valued-apart (Is v) (Value·Refused r) e = absurd (not-fine (sym e))
 valued-apart (Value·Refused r) (Is w) e = absurd (not-fine e)
 valued-apart (Value·Refused r) (Value·Refused q) e = ap Value·Refused (same-refusal r q e)
+
+-- A quantity of a type of its own is told by its number.
+length-apart : (x y : Length) → x .0 ≡ y .0 → x ≡ y
+length-apart x y e = λ i. record { 0 = e i }
+
+position-apart : (x y : Position) → x .0 ≡ y .0 → x ≡ y
+position-apart x y e = λ i. record { 0 = e i }
+
+duration-apart : (x y : Duration) → x .0 ≡ y .0 → x ≡ y
+duration-apart x y e = λ i. record { 0 = e i }
+
+time-apart : (x y : Time) → x .0 ≡ y .0 → x ≡ y
+time-apart x y e = λ i. record { 0 = e i }
+
+angle-apart : (x y : Angle) → x .0 ≡ y .0 → x ≡ y
+angle-apart x y e = λ i. record { 0 = e i }
+
+direction-apart : (x y : Direction) → x .0 ≡ y .0 → x ≡ y
+direction-apart x y e = λ i. record { 0 = e i }
+
+temperature-apart : (x y : Temperature) → x .0 ≡ y .0 → x ≡ y
+temperature-apart x y e = λ i. record { 0 = e i }
+
+absolute-temperature-apart : (x y : AbsoluteTemperature) → x .0 ≡ y .0 → x ≡ y
+absolute-temperature-apart x y e = λ i. record { 0 = e i }
+
+-- A quantity of the pairs is found again from what is seen of it: by its unit type, and its number.
+again : Answer Pairs.Quantity → Quantity
+again (fine (relative p x)) =
+    cond (eqb (p .relativeUnit) 16) (Q.Length (record { 0 = x }))
+    (cond (eqb (p .relativeUnit) 25) (Q.Duration (record { 0 = x }))
+    (cond (eqb (p .relativeUnit) 3) (Q.Angle (record { 0 = x })) (Q.Temperature (record { 0 = x }))))
+again (fine (absolute p x)) =
+    cond (eqb (p .absoluteUnit) 17) (Q.Position (record { 0 = x }))
+    (cond (eqb (p .absoluteUnit) 26) (Q.Time (record { 0 = x }))
+    (cond (eqb (p .absoluteUnit) 4) (Q.Direction (record { 0 = x })) (Q.AbsoluteTemperature (record { 0 = x }))))
+again (refused k p) = Other
+
+found-again : (q : Quantity) → again (seen q) ≡ q
+unfolding again
+found-again (Q.Length x) = refl
+found-again (Q.Position x) = refl
+found-again (Q.Duration x) = refl
+found-again (Q.Time x) = refl
+found-again (Q.Angle x) = refl
+found-again (Q.Direction x) = refl
+found-again (Q.Temperature x) = refl
+found-again (Q.AbsoluteTemperature x) = refl
+found-again Other = refl
+
+seen-apart : (x y : Quantity) → seen x ≡ seen y → x ≡ y
+seen-apart x y e = sym (found-again x) ∙ ap again e ∙ found-again y
 
 -- The calls of crate sim0mq.
 pub sim0mq-refuse-result : Determines sim0mq-refuse.Post (λ κs z e. z)
@@ -453,6 +552,100 @@ add-scalar-out = equated add-scalar.Post (λ κs z e. now (e .1 .1 .0)) _ (λ κ
 
 pub close-result : Determines close.Post (λ κs z e. z)
 close-result = equated close.Post (λ κs z e. z) _ (λ κs a z e p. p)
+
+-- The calls of sums.
+pub added-result : Determines added.Post (λ κs z e. z)
+added-result = equated added.Post (λ κs z e. z) _ (λ κs a z e p. p)
+
+pub taken-result : Determines taken.Post (λ κs z e. z)
+taken-result = equated taken.Post (λ κs z e. z) _ (λ κs a z e p. p)
+
+pub length-plus-result : Determines length-plus.Post (λ κs z e. z)
+length-plus-result = determined length-plus.Post (λ κs z e. z) (λ κs z. z .0) (λ κs. length-apart) _ (λ κs a z e p. p)
+
+pub length-plus-position-result : Determines length-plus-position.Post (λ κs z e. z)
+length-plus-position-result = determined length-plus-position.Post (λ κs z e. z) (λ κs z. z .0) (λ κs. position-apart) _ (λ κs a z e p. p)
+
+pub length-less-result : Determines length-less.Post (λ κs z e. z)
+length-less-result = determined length-less.Post (λ κs z e. z) (λ κs z. z .0) (λ κs. length-apart) _ (λ κs a z e p. p)
+
+pub position-plus-result : Determines position-plus.Post (λ κs z e. z)
+position-plus-result = determined position-plus.Post (λ κs z e. z) (λ κs z. z .0) (λ κs. position-apart) _ (λ κs a z e p. p)
+
+pub position-less-result : Determines position-less.Post (λ κs z e. z)
+position-less-result = determined position-less.Post (λ κs z e. z) (λ κs z. z .0) (λ κs. position-apart) _ (λ κs a z e p. p)
+
+pub position-less-position-result : Determines position-less-position.Post (λ κs z e. z)
+position-less-position-result = determined position-less-position.Post (λ κs z e. z) (λ κs z. z .0) (λ κs. length-apart) _ (λ κs a z e p. p)
+
+pub duration-plus-result : Determines duration-plus.Post (λ κs z e. z)
+duration-plus-result = determined duration-plus.Post (λ κs z e. z) (λ κs z. z .0) (λ κs. duration-apart) _ (λ κs a z e p. p)
+
+pub duration-plus-time-result : Determines duration-plus-time.Post (λ κs z e. z)
+duration-plus-time-result = determined duration-plus-time.Post (λ κs z e. z) (λ κs z. z .0) (λ κs. time-apart) _ (λ κs a z e p. p)
+
+pub duration-less-result : Determines duration-less.Post (λ κs z e. z)
+duration-less-result = determined duration-less.Post (λ κs z e. z) (λ κs z. z .0) (λ κs. duration-apart) _ (λ κs a z e p. p)
+
+pub time-plus-result : Determines time-plus.Post (λ κs z e. z)
+time-plus-result = determined time-plus.Post (λ κs z e. z) (λ κs z. z .0) (λ κs. time-apart) _ (λ κs a z e p. p)
+
+pub time-less-result : Determines time-less.Post (λ κs z e. z)
+time-less-result = determined time-less.Post (λ κs z e. z) (λ κs z. z .0) (λ κs. time-apart) _ (λ κs a z e p. p)
+
+pub time-less-time-result : Determines time-less-time.Post (λ κs z e. z)
+time-less-time-result = determined time-less-time.Post (λ κs z e. z) (λ κs z. z .0) (λ κs. duration-apart) _ (λ κs a z e p. p)
+
+pub angle-plus-result : Determines angle-plus.Post (λ κs z e. z)
+angle-plus-result = determined angle-plus.Post (λ κs z e. z) (λ κs z. z .0) (λ κs. angle-apart) _ (λ κs a z e p. p)
+
+pub angle-plus-direction-result : Determines angle-plus-direction.Post (λ κs z e. z)
+angle-plus-direction-result = determined angle-plus-direction.Post (λ κs z e. z) (λ κs z. z .0) (λ κs. direction-apart) _ (λ κs a z e p. p)
+
+pub angle-less-result : Determines angle-less.Post (λ κs z e. z)
+angle-less-result = determined angle-less.Post (λ κs z e. z) (λ κs z. z .0) (λ κs. angle-apart) _ (λ κs a z e p. p)
+
+pub direction-plus-result : Determines direction-plus.Post (λ κs z e. z)
+direction-plus-result = determined direction-plus.Post (λ κs z e. z) (λ κs z. z .0) (λ κs. direction-apart) _ (λ κs a z e p. p)
+
+pub direction-less-result : Determines direction-less.Post (λ κs z e. z)
+direction-less-result = determined direction-less.Post (λ κs z e. z) (λ κs z. z .0) (λ κs. direction-apart) _ (λ κs a z e p. p)
+
+pub direction-less-direction-result : Determines direction-less-direction.Post (λ κs z e. z)
+direction-less-direction-result = determined direction-less-direction.Post (λ κs z e. z) (λ κs z. z .0) (λ κs. angle-apart) _ (λ κs a z e p. p)
+
+pub temperature-plus-result : Determines temperature-plus.Post (λ κs z e. z)
+temperature-plus-result = determined temperature-plus.Post (λ κs z e. z) (λ κs z. z .0) (λ κs. temperature-apart) _ (λ κs a z e p. p)
+
+pub temperature-plus-absolute-temperature-result : Determines temperature-plus-absolute-temperature.Post (λ κs z e. z)
+temperature-plus-absolute-temperature-result = determined temperature-plus-absolute-temperature.Post (λ κs z e. z) (λ κs z. z .0) (λ κs. absolute-temperature-apart) _ (λ κs a z e p. p)
+
+pub temperature-less-result : Determines temperature-less.Post (λ κs z e. z)
+temperature-less-result = determined temperature-less.Post (λ κs z e. z) (λ κs z. z .0) (λ κs. temperature-apart) _ (λ κs a z e p. p)
+
+pub absolute-temperature-plus-result : Determines absolute-temperature-plus.Post (λ κs z e. z)
+absolute-temperature-plus-result = determined absolute-temperature-plus.Post (λ κs z e. z) (λ κs z. z .0) (λ κs. absolute-temperature-apart) _ (λ κs a z e p. p)
+
+pub absolute-temperature-less-result : Determines absolute-temperature-less.Post (λ κs z e. z)
+absolute-temperature-less-result = determined absolute-temperature-less.Post (λ κs z e. z) (λ κs z. z .0) (λ κs. absolute-temperature-apart) _ (λ κs a z e p. p)
+
+pub absolute-temperature-less-absolute-temperature-result : Determines absolute-temperature-less-absolute-temperature.Post (λ κs z e. z)
+absolute-temperature-less-absolute-temperature-result = determined absolute-temperature-less-absolute-temperature.Post (λ κs z e. z) (λ κs z. z .0) (λ κs. temperature-apart) _ (λ κs a z e p. p)
+
+pub quantity-of-result : Determines quantity-of.Post (λ κs z e. z)
+quantity-of-result = determined quantity-of.Post (λ κs z e. z) (λ κs. seen) (λ κs. seen-apart) _ (λ κs a z e p. p)
+
+pub add-quantities-result : Determines add-quantities.Post (λ κs z e. z)
+add-quantities-result = determined add-quantities.Post (λ κs z e. z) (λ κs. seen) (λ κs. seen-apart) _ (λ κs a z e p. p)
+
+pub subtract-quantities-result : Determines subtract-quantities.Post (λ κs z e. z)
+subtract-quantities-result = determined subtract-quantities.Post (λ κs z e. z) (λ κs. seen) (λ κs. seen-apart) _ (λ κs a z e p. p)
+
+pub sum-result : Determines sum.Post (λ κs z e. z)
+sum-result = determined sum.Post (λ κs z e. z) (λ κs. valued) (λ κs. valued-apart) _ (λ κs a z e p. p)
+
+pub difference-result : Determines difference.Post (λ κs z e. z)
+difference-result = determined difference.Post (λ κs z e. z) (λ κs. valued) (λ κs. valued-apart) _ (λ κs a z e p. p)
 
 -- The calls of crate casting.
 pub give-value-result : Determines give-value.Post (λ κs z e. z)
