@@ -1,15 +1,14 @@
 -- What the answer is for two operands: refused by 24 where the page of pairs has no such sum, and else tested for 25. The
 -- page is held against the rule by one test computed over all unit types up to 28; above it there is no pair.
 use Prim.Native.Nat.{ℕ, _<_, _≤_}
-use mathlib.Core.Path.{_≡_, refl, sym, ap, _∙_}
+use mathlib.Core.Path.{_≡_, refl, sym, _∙_}
 use mathlib.Core.Bool.{Bool, true, false, _&&_, Bool·beq, and-false, false≢true}
 use mathlib.Core.List.{List, [], _∷_}
 use native.Mathlib.Omega.{arith}
 use lib.Dec.{eqb, ltb}
 use lib.Ieee.{Float}
 use borrow.Author.Tests.{ltb-true, ltb-false, ne-eqb}
-use Rattle.sim0mq.specs.Answer.{Answer, fine, refused, _>>=_, _>>_, guard}
-use Rattle.sim0mq.proofs.Answers.{not-fine}
+use Rattle.sim0mq.specs.Answer.{Answer, fine, refused, _>>_, guard}
 use Rattle.sim0mq.proofs.Rows.{allBelow, below-at}
 use Rattle.kinds.specs.declared.Scalar.{Scalar}
 use Rattle.sums_quantities.specs.declared.shown.Shown.{Shown}
@@ -17,7 +16,7 @@ use Rattle.sums_pairs.specs.Pairs.{Pair, pairs, Quantity, quantityIn, quantityA
 use Rattle.sums_pairs.specs.Views.{combined}
 use Rattle.sums.specs.Sums.{Measured, measured, isFinite, scalarOf, answerOf, answer}
 use Rattle.sums.specs.Promises.{addsIn, subtractsIn}
-use Rattle.sums.proofs.RuleLaws.{Ruled, refuses, combines, IsRule}
+use Rattle.sums.proofs.RuleLaws.{Ruled, refuses, IsRule}
 use Rattle.sums.proofs.ReadLaws.{found, found-none}
 
 -- the answer, as far as each scalar is an operand

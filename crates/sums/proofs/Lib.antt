@@ -3,4 +3,7 @@ pub mod RuleLaws
 pub mod SumLaws
 pub mod ReadLaws
 pub mod AnswerLaws
+pub mod UnitLaws
+pub mod RefusalLaws
+pub mod BackLaws
 pub mod Promises

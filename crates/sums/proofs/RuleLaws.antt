@@ -1,6 +1,5 @@
 -- A rule combines two quantities by one operation on their numbers, or refuses by 24. What it gives is again a quantity that
 -- reading can give: of a pair of the page, with a display code that is taken.
-use Prim.Native.Nat.{ℕ}
 use mathlib.Core.Path.{_≡_, refl, sym, ap, ap₂, _∙_, subst}
 use mathlib.Core.Bool.{Bool, true, false, _&&_}
 use native.Mathlib.Omega.{arith}
@@ -12,7 +11,6 @@ use Rattle.sim0mq.proofs.Answers.{not-fine, fine-eq}
 use Rattle.sums_quantities.specs.declared.shown.Shown.{Shown}
 use Rattle.sums_pairs.specs.Pairs.{Pair, Quantity, relative, absolute, unitOf, numberOf, quantityAt, samePair, ofOnePair, summed, differed}
 use Rattle.sums.specs.Sums.{finite, isFinite}
-use Rattle.sums.proofs.FloatLaws.{add-strict, sub-strict}
 
 -- a pair of the page is found there by both its unit types, which are plain
 pub record OnPage (p : Pair) : Type 0 where
