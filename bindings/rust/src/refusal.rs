@@ -3,7 +3,7 @@
 use std::error::Error;
 use std::fmt;
 
-/// Why a call was refused, as one of the twenty-three numbers, 1 to 23.
+/// Why a call was refused, as one of the twenty-five numbers, 1 to 25.
 #[derive(Clone, Copy, Debug, PartialEq, Eq, PartialOrd, Ord, Hash)]
 #[repr(u8)]
 pub enum RefusalKind {
@@ -57,11 +57,15 @@ pub enum RefusalKind {
     CommandCode = 22,
     /// 23: a command's string is empty, or none of its words. The place is the field's code byte.
     CommandText = 23,
+    /// 24: two quantities that cannot be combined by this sum or difference. The place is 0.
+    NotCombined = 24,
+    /// 25: an operand of a sum or a difference, or its result, is infinite or a NaN. The place is 0.
+    NotFinite = 25,
 }
 
 impl RefusalKind {
-    /// All twenty-three, in the order of their numbers.
-    pub const ALL: [RefusalKind; 23] = [
+    /// All twenty-five, in the order of their numbers.
+    pub const ALL: [RefusalKind; 25] = [
         RefusalKind::EndsEarly,
         RefusalKind::WrongStart,
         RefusalKind::WrongEdition,
@@ -85,15 +89,17 @@ impl RefusalKind {
         RefusalKind::CommandShape,
         RefusalKind::CommandCode,
         RefusalKind::CommandText,
+        RefusalKind::NotCombined,
+        RefusalKind::NotFinite,
     ];
 
-    /// The kind with this number, or `None` where the number is not 1 to 23.
+    /// The kind with this number, or `None` where the number is not 1 to 25.
     #[must_use]
     pub fn of(number: u8) -> Option<RefusalKind> {
         RefusalKind::ALL.into_iter().find(|kind| kind.number() == number)
     }
 
-    /// Its number, 1 to 23.
+    /// Its number, 1 to 25.
     #[must_use]
     pub const fn number(self) -> u8 {
         self as u8
@@ -126,6 +132,8 @@ impl RefusalKind {
             RefusalKind::CommandShape => "wrong status or number of fields",
             RefusalKind::CommandCode => "field code that this command cannot have here",
             RefusalKind::CommandText => "string empty or not of its set of words",
+            RefusalKind::NotCombined => "quantities that cannot be combined",
+            RefusalKind::NotFinite => "infinite or not a number in a sum",
         }
     }
 }
@@ -164,7 +172,7 @@ impl Refusal {
         Refusal { kind, place }
     }
 
-    /// Its number, 1 to 23.
+    /// Its number, 1 to 25.
     #[must_use]
     pub const fn number(self) -> u8 {
         self.kind.number()
