@@ -13,7 +13,7 @@ use Rattle.encoding.specs.Scalars.{markTaken}
 use Rattle.sums_quantities.specs.declared.shown.Shown.{Shown}
 use Rattle.sums_pairs.specs.Pairs.{Pair, pairs, relative, absolute, summed, differed}
 use Rattle.sums.specs.Sums.{measured, finite, isFinite, scalarOf, answerOf, answer}
-use Rattle.sums.specs.Promises.{Absolutes-are-never-added, Either-order, Difference-adds-back, Result-comes-back, addsIn, subtractsIn, Refusals-in-order}
+use Rattle.sums.specs.Promises.{IsTaken, Absolutes-are-never-added, Either-order, Difference-adds-back, Result-comes-back, addsIn, subtractsIn, Refusals-in-order}
 use Rattle.sums.proofs.RuleLaws.{sum-rule, difference-rule}
 use Rattle.sums.proofs.ReadLaws.{shownOf, IsRead, operand, noOperand, is-read}
 use Rattle.sums.proofs.AnswerLaws.{answer-first, answer-second, sums-agree, differences-agree}
@@ -56,9 +56,6 @@ either-order x y m n u v = go (markTaken m (kindOf (m .unit))) (markTaken n (kin
 -- a scalar with this mark was read with it
 same-mark : {x y : Float} {m n : Mark} → DoubleUnit x m ≡ DoubleUnit y n → n ≡ m
 same-mark e = cc
-
-abbrev IsTaken : Mark → Type 0
-IsTaken m = markTaken m (kindOf (m .unit)) ≡ true
 
 pub difference-adds-back : Difference-adds-back
 difference-adds-back x y m n d e = go (is-read (DoubleUnit x m)) (is-read (DoubleUnit y n))

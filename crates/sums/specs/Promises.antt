@@ -18,6 +18,10 @@ use Rattle.returning.specs.Promises.{Held}
 use Rattle.sums_pairs.specs.Pairs.{Pair, pairs}
 use Rattle.sums.specs.Sums.{finite, sumOf, differenceOf}
 
+-- A mark is one that reading gives.
+abbrev pub IsTaken : Mark → Type 0
+IsTaken m = markTaken m (kindOf (m .unit)) ≡ true
+
 -- The unit types of the relative quantities, and those of the absolute ones.
 abbrev pub Relative : ℕ → Type 0
 Relative u = among u (map (λ (p : Pair). p .relativeUnit) pairs) ≡ true
@@ -29,7 +33,7 @@ Absolute u = among u (map (λ (p : Pair). p .absoluteUnit) pairs) ≡ true
 abbrev pub Absolutes-are-never-added : Type 0
 Absolutes-are-never-added =
     (x y : Float) (m n : Mark) → Absolute (m .unit) → Absolute (n .unit)
-    → markTaken m (kindOf (m .unit)) ≡ true → markTaken n (kindOf (n .unit)) ≡ true
+    → IsTaken m → IsTaken n
     → sumOf (DoubleUnit x m) (DoubleUnit y n) ≡ refused 24 0
 
 -- Absolute plus relative is the same in either order, mark and refusal too.
@@ -52,7 +56,7 @@ pub record ComesBack (r : Scalar) : Type 0 where
   pub mark : Mark
   pub itself : r ≡ DoubleUnit value mark
   pub isFinite : finite value ≡ true
-  pub taken : markTaken mark (kindOf (mark .unit)) ≡ true
+  pub taken : IsTaken mark
   pub held : Held r
   pub given : scalarGiven r ≡ fine (scalarText r)
   pub back : valueAlone (scalarText r) ≡ fine r
@@ -80,16 +84,16 @@ subtractsIn (p ∷ ps) u v =
 
 -- A scalar is no double with a mark that reading gives.
 abbrev pub NoOperand : Scalar → Type 0
-NoOperand a = (x : Float) (m : Mark) → a ≡ DoubleUnit x m → markTaken m (kindOf (m .unit)) ≡ true → ⊥
+NoOperand a = (x : Float) (m : Mark) → a ≡ DoubleUnit x m → IsTaken m → ⊥
 
 -- The refusals of a way to combine two scalars, in their order: 17 exactly where one of them is no operand; where both
 -- are, 24 exactly where their unit types can't be combined; and where they can, 25 exactly where an operand or the
 -- result is infinite or a NaN. There is no other refusal, and each is at 0.
 pub record Refuses (way : Scalar → Scalar → Answer Scalar) (combines : ℕ → ℕ → Bool) (result : Float → Float → Float) : Type 0 where
   pub first : (a b : Scalar) → (way a b ≡ refused 17 0) ↔ (NoOperand a ⊎ NoOperand b)
-  pub second : (x y : Float) (m n : Mark) → markTaken m (kindOf (m .unit)) ≡ true → markTaken n (kindOf (n .unit)) ≡ true
+  pub second : (x y : Float) (m n : Mark) → IsTaken m → IsTaken n
       → (way (DoubleUnit x m) (DoubleUnit y n) ≡ refused 24 0) ↔ (combines (m .unit) (n .unit) ≡ false)
-  pub third : (x y : Float) (m n : Mark) → markTaken m (kindOf (m .unit)) ≡ true → markTaken n (kindOf (n .unit)) ≡ true
+  pub third : (x y : Float) (m n : Mark) → IsTaken m → IsTaken n
       → combines (m .unit) (n .unit) ≡ true
       → (way (DoubleUnit x m) (DoubleUnit y n) ≡ refused 25 0) ↔ (finite x && finite y && finite (result x y) ≡ false)
   pub other : (a b : Scalar) (k p : ℕ) → way a b ≡ refused k p → (among k (17 ∷ 24 ∷ 25 ∷ []) ≡ true) × (p ≡ 0)
