@@ -6,4 +6,5 @@ pub mod AnswerLaws
 pub mod UnitLaws
 pub mod RefusalLaws
 pub mod BackLaws
+pub mod AskLaws
 pub mod Promises

@@ -2,24 +2,34 @@
 use mathlib.Core.Path.{_≡_, refl, sym, ap, _∙_, subst}
 use mathlib.Core.Bool.{Bool, true, false, _&&_, and-comm}
 use mathlib.Core.Logic.{_⊎_, inl, inr}
-use lib.Ieee.{Float, binary64, add, sub}
+use lib.IntN.{pos}
+use lib.Ieee.{Float, fin, binary64, add, sub, fits, isNan}
 use lib.Ieee.Fits.{add-fits, sub-fits}
 use Rattle.sim0mq.specs.Answer.{fine, refused, _>>=_, _>>_, guard}
 use Rattle.sim0mq.specs.Mark.{kindOf}
 use Rattle.sim0mq.proofs.Answers.{not-fine}
 use Rattle.kinds.specs.declared.Mark.{Mark}
 use Rattle.kinds.specs.declared.Scalar.the-variants.{DoubleUnit}
-use Rattle.encoding.specs.Scalars.{markTaken}
+use Rattle.encoding.specs.Scalars.{scalarText, markTaken, writable}
+use Rattle.returning.proofs.ScalarLaws.{scalar-back}
 use Rattle.sums_quantities.specs.declared.shown.Shown.{Shown}
 use Rattle.sums_pairs.specs.Pairs.{Pair, pairs, relative, absolute, summed, differed}
 use Rattle.sums.specs.Sums.{measured, finite, isFinite, scalarOf, answerOf, answer}
-use Rattle.sums.specs.Promises.{IsTaken, Absolutes-are-never-added, Either-order, Difference-adds-back, Result-comes-back, addsIn, subtractsIn, Refusals-in-order}
+use Rattle.sums.specs.Promises.{IsTaken, Taken-is-what-reading-gives, Absolutes-are-never-added, Either-order, Difference-adds-back, Result-comes-back, addsIn, subtractsIn, Refusals-in-order}
 use Rattle.sums.proofs.RuleLaws.{sum-rule, difference-rule}
 use Rattle.sums.proofs.ReadLaws.{shownOf, IsRead, operand, noOperand, is-read}
 use Rattle.sums.proofs.AnswerLaws.{answer-first, answer-second, sums-agree, differences-agree}
+use Rattle.sums.proofs.AskLaws.{asked-taken}
 use Rattle.sums.proofs.RefusalLaws.{is-answer, refuses-in-order}
 use Rattle.sums.proofs.BackLaws.{comes-back, taken-back}
 use Rattle.sums.proofs.UnitLaws.{absolute-at, relative-at, swapped}
+
+pub taken-is-what-reading-gives : Taken-is-what-reading-gives
+unfolding writable isNan fits
+taken-is-what-reading-gives = (
+  λ s k x m e. asked-taken x m s k e,
+  λ m t. let zero = DoubleUnit (fin false 0 (pos 0)) m in (scalarText zero, fin false 0 (pos 0), scalar-back zero t tt),
+)
 
 pub absolutes-are-never-added : Absolutes-are-never-added
 unfolding summed

@@ -28,7 +28,7 @@ pub data IsRead (a : Scalar) : Type 0 where
       → measured a ≡ fine (record { unit = m .unit; number = shownOf x m }) → IsRead a
   noOperand : NoOperand a → measured a ≡ refused 17 0 → IsRead a
 
-abbrev isDouble : Scalar → Bool
+abbrev pub isDouble : Scalar → Bool
 isDouble (Byte z) = false
 isDouble (Short z) = false
 isDouble (Int z) = false

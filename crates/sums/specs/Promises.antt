@@ -12,6 +12,7 @@ use Rattle.sim0mq.specs.Mark.{kindOf}
 use Rattle.kinds.specs.declared.Mark.{Mark}
 use Rattle.kinds.specs.declared.Scalar.{Scalar}
 use Rattle.kinds.specs.declared.Scalar.the-variants.{DoubleUnit}
+use Rattle.scalars.specs.Scalars.{value}
 use Rattle.scalars.specs.Promises.{valueAlone}
 use Rattle.encoding.specs.Scalars.{markTaken, scalarText, scalarGiven}
 use Rattle.returning.specs.Promises.{Held}
@@ -21,6 +22,13 @@ use Rattle.sums.specs.Sums.{finite, sumOf, differenceOf}
 -- A mark is one that reading gives.
 abbrev pub IsTaken : Mark → Type 0
 IsTaken m = markTaken m (kindOf (m .unit)) ≡ true
+
+-- So it is: what asking returns as a double with its unit has such a mark; and every such mark comes with some double, as
+-- the value of a field's bytes.
+abbrev pub Taken-is-what-reading-gives : Type 0
+Taken-is-what-reading-gives =
+    ((s : List ℕ) (k : ℕ) (x : Float) (m : Mark) → value s k ≡ fine (DoubleUnit x m) → IsTaken m)
+    × ((m : Mark) → IsTaken m → (l : List ℕ) × (x : Float) × (valueAlone l ≡ fine (DoubleUnit x m)))
 
 -- The unit types of the relative quantities, and those of the absolute ones.
 abbrev pub Relative : ℕ → Type 0
