@@ -1,5 +1,5 @@
--- What the answer is for two operands: refused by 24 where the page of pairs has no such sum, and else tested for 25. The
--- page is held against the rule by one test computed over all unit types up to 28; above it there is no pair.
+-- What the answer is for two operands: refused by 24 where the page of pairs has no such sum, and else tested for 25.
+-- The page is held against the rule by one test computed over all unit types up to 28; above it there is no pair.
 use Prim.Native.Nat.{ℕ, _<_, _≤_}
 use mathlib.Core.Path.{_≡_, refl, sym, _∙_}
 use mathlib.Core.Bool.{Bool, true, false, _&&_, Bool·beq, and-false, false≢true}

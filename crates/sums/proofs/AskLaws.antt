@@ -1,12 +1,13 @@
--- What asking returns as a double with its unit has a mark that is taken, since its field was judged, and its mark with it.
+-- What asking returns as a double with its unit has a mark that is taken, since its field was judged, and its mark with
+-- it.
 use Prim.Native.Nat.{ℕ, _+_}
 use mathlib.Core.Path.{_≡_, refl, sym, ap, _∙_, subst}
-use mathlib.Core.Bool.{Bool, true, false, cond, _&&_, false≢true}
+use mathlib.Core.Bool.{Bool, true, false, cond, false≢true}
 use mathlib.Core.List.{List, [], _∷_}
 use native.Mathlib.Omega.{arith}
 use lib.Ieee.{Float, binary32, binary64, nanBits, ofBits}
-use Rattle.sim0mq.specs.Answer.{fine, byte, big, _>>=_}
-use Rattle.sim0mq.specs.Allowed.{IsMark, withDisplay, withCurrency, withBoth, number, marksAsked}
+use Rattle.sim0mq.specs.Answer.{fine, byte}
+use Rattle.sim0mq.specs.Allowed.{IsMark, withDisplay, withCurrency, withBoth, marksAsked}
 use Rattle.sim0mq.specs.Codes.{countsOf, markingOf}
 use Rattle.sim0mq.specs.Field.{Field}
 use Rattle.sim0mq.proofs.Answers.{bind-fine}

@@ -1,5 +1,5 @@
--- A result is again an operand, and can be written: a rule keeps its mark one that reading gives, and what is finite fits a
--- double. And what is left of a quantity can be added back.
+-- A result is again an operand, and can be written: a rule keeps its mark one that reading gives, and what is finite
+-- fits a double. And what is left of a quantity can be added back.
 use Prim.Native.Nat.{ℕ}
 use mathlib.Core.Path.{_≡_, refl, sym, ap, _∙_, subst}
 use mathlib.Core.Bool.{Bool, true, false, _&&_, false≢true}
@@ -93,7 +93,8 @@ module _ (rule : Quantity → Quantity → Answer Quantity) (page : ℕ → ℕ 
         back = scalar-back (scalarOf q) may held;
       })
 
--- what is left of a quantity after another is added to that one again, and gives a quantity of the first one's unit type
+-- what is left of a quantity after another is added to that one again, and gives a quantity of the first one's unit
+-- type
 adds-back : (a b r : Quantity) → differed a b ≡ fine r → (s : Quantity) × (summed b r ≡ fine s) × (unitOf s ≡ unitOf a)
 unfolding summed differed
 adds-back (relative p x) (relative q y) r e =

@@ -1,5 +1,5 @@
--- The refusals in their order: each scalar is read or is no operand, and of two operands the answer is refused by 24, or
--- tested for 25.
+-- The refusals in their order: each scalar is read or is no operand, and of two operands the answer is refused by 24,
+-- or tested for 25.
 use Prim.Native.Nat.{ℕ}
 use mathlib.Core.Path.{_≡_, refl, sym, ap, ap₂, _∙_}
 use mathlib.Core.Bool.{Bool, true, false, not, _&&_, false≢true}

@@ -1,5 +1,5 @@
--- A rule combines two quantities by one operation on their numbers, or refuses by 24. What it gives is again a quantity that
--- reading can give: of a pair of the page, with a display code that is taken.
+-- A rule combines two quantities by one operation on their numbers, or refuses by 24. What it gives is again a quantity
+-- that reading can give: of a pair of the page, with a display code that is taken.
 use mathlib.Core.Path.{_≡_, refl, sym, ap, ap₂, _∙_, subst}
 use mathlib.Core.Bool.{Bool, true, false, _&&_}
 use native.Mathlib.Omega.{arith}

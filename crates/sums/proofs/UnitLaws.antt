@@ -1,4 +1,5 @@
--- Unit types of the page, and pairs, in either order: an addition's operands may change places, and so may those of a pair.
+-- Unit types of the page, and pairs, in either order: an addition's operands may change places, and so may those of a
+-- pair.
 use Prim.Native.Nat.{ℕ}
 use mathlib.Core.Path.{_≡_, refl, sym, ap₂, _∙_}
 use mathlib.Core.Bool.{Bool, true, false, _&&_, false≢true}

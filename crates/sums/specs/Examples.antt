@@ -5,7 +5,7 @@ use mathlib.Core.Bool.{false}
 use mathlib.Core.List.{[], _∷_}
 use lib.Count.{trailingZeros}
 use lib.IntN.{pos, negsuc}
-use lib.Ieee.{Float, inf, fin, binary64, span, climb, size, odd, units, round, neg, sum, add, sub}
+use lib.Ieee.{Float, inf, fin, span, climb, size, odd, units, round, neg, sum, add, sub}
 use Rattle.sim0mq.specs.Answer.{fine, refused}
 use Rattle.sim0mq.specs.Mark.{kindOf, displayTaken}
 use Rattle.kinds.specs.declared.Scalar.{Scalar}
@@ -21,8 +21,8 @@ of u x d = DoubleUnit x (record { unit = u; currency = 0; display = d })
 abbrev pub whole : ℕ → ℕ → Float
 whole m e = fin false m (pos e)
 
--- 5 o'clock less 3 o'clock is 2 hours; 17:00 and 2 hours, in either order, is 19:00; 2 hours and 30 minutes is 2.5 hours;
--- 1 metre and 2 to the -53 of a metre is 1 metre, halfway and to the even one.
+-- 5 o'clock less 3 o'clock is 2 hours; 17:00 and 2 hours, in either order, is 19:00; 2 hours and 30 minutes is 2.5
+-- hours; 1 metre and 2 to the -53 of a metre is 1 metre, halfway and to the even one.
 pub examples-hold :
     differenceOf (of 26 (whole 1125 4) 3) (of 26 (whole 675 4) 2)
     ∷ sumOf (of 26 (whole 3825 4) 3) (of 25 (whole 225 5) 8)
@@ -41,9 +41,9 @@ unfolding
     add sub neg sum round units odd size span climb trailingZeros
 examples-hold = refl
 
--- 5 o'clock and 3 o'clock are not added; 2 hours less 3 o'clock is none; hours and metres are not combined, though one is
--- infinite; infinite hours, and the largest double twice; "not a number", and a display code that is none, beside metres
--- that hours can't be combined with.
+-- 5 o'clock and 3 o'clock are not added; 2 hours less 3 o'clock is none; hours and metres are not combined, though one
+-- is infinite; infinite hours, and the largest double twice; "not a number", and a display code that is none, beside
+-- metres that hours can't be combined with.
 pub refused-examples-hold :
     sumOf (of 26 (whole 1125 4) 3) (of 26 (whole 675 4) 3)
     ∷ differenceOf (of 25 (whole 225 5) 8) (of 26 (whole 675 4) 3)

@@ -23,8 +23,8 @@ use Rattle.sums.specs.Sums.{finite, sumOf, differenceOf}
 abbrev pub IsTaken : Mark → Type 0
 IsTaken m = markTaken m (kindOf (m .unit)) ≡ true
 
--- So it is: what asking returns as a double with its unit has such a mark; and every such mark comes with some double, as
--- the value of a field's bytes.
+-- So it is: what asking returns as a double with its unit has such a mark; and every such mark comes with some double,
+-- as the value of a field's bytes.
 abbrev pub Taken-is-what-reading-gives : Type 0
 Taken-is-what-reading-gives =
     ((s : List ℕ) (k : ℕ) (x : Float) (m : Mark) → value s k ≡ fine (DoubleUnit x m) → IsTaken m)

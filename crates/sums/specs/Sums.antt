@@ -45,8 +45,8 @@ finite (fin s m e) = true
 abbrev pub isFinite : Quantity → Bool
 isFinite q = finite (numberOf q .value)
 
--- The answer for two doubles with their units by a rule: 24, then 25 where an operand or the result is infinite or holds
--- a NaN.
+-- The answer for two doubles with their units by a rule: 24, then 25 where an operand or the result is infinite or
+-- holds a NaN.
 abbrev pub answerOf : (Quantity → Quantity → Answer Quantity) → Measured → Measured → Answer Scalar
 answerOf rule m n = do
   x ← quantityAt (m .unit) (m .number)

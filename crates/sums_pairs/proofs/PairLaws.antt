@@ -1,4 +1,5 @@
--- A rule refuses a quantity beside each of some others: tested at one of each kind, since the numbers play no part in it.
+-- A rule refuses a quantity beside each of some others: tested at one of each kind, since the numbers play no part in
+-- it.
 use Prim.Native.Nat.{ℕ}
 use mathlib.Core.Path.{_≡_, refl, sym, ap, ap₂, _∙_}
 use mathlib.Core.Bool.{Bool, true, false, _&&_, false≢true}

@@ -61,8 +61,8 @@ ofOnePair p q r = do
   guard (samePair p q) 24 0
   fine r
 
--- Relative quantities add among themselves, and the first one's display code is taken; absolute plus relative, in either
--- order, is absolute, and the absolute one's is taken; two absolutes are never added.
+-- Relative quantities add among themselves, and the first one's display code is taken; absolute plus relative, in
+-- either order, is absolute, and the absolute one's is taken; two absolutes are never added.
 unfoldable pub summed : Quantity → Quantity → Answer Quantity
 summed (relative p x) (relative q y) = ofOnePair p q (relative p (plus x y (x .display)))
 summed (absolute p x) (relative q y) = ofOnePair p q (absolute p (plus x y (x .display)))

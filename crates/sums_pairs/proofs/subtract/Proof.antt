@@ -1,5 +1,5 @@
--- Each arm of a pair is one of the manual's differences; beside any other quantity the rule refuses, which is tested at each case
--- that the arm leaves.
+-- Each arm of a pair is one of the manual's differences; beside any other quantity the rule refuses, which is tested at
+-- each case that the arm leaves.
 use borrow.Author.Needs.{needs}
 use mathlib.Core.Path.{refl}
 use mathlib.Core.List.{[], _∷_}
