@@ -136,8 +136,8 @@ use Rattle.sums_quantities.proofs.temperatures.Temperature.less.Reads as temper
 use Rattle.sums_quantities.proofs.temperatures.AbsoluteTemperature.plus.Reads as absolute-temperature-plus
 use Rattle.sums_quantities.proofs.temperatures.AbsoluteTemperature.less.Reads as absolute-temperature-less
 use Rattle.sums_quantities.proofs.temperatures.AbsoluteTemperature.less_absolute_temperature.Reads as absolute-temperature-less-absolute-temperature
-use Rattle.sums_quantities.proofs.shown.added.Reads as added
-use Rattle.sums_quantities.proofs.shown.taken.Reads as taken
+use Rattle.sums_quantities.proofs.shown.plus.Reads as shown-plus
+use Rattle.sums_quantities.proofs.shown.less.Reads as shown-less
 use Rattle.sums_pairs.proofs.quantity_of.Reads as quantity-of
 use Rattle.sums_pairs.proofs.add.Reads as add-quantities
 use Rattle.sums_pairs.proofs.subtract.Reads as subtract-quantities
@@ -554,11 +554,11 @@ pub close-result : Determines close.Post (λ κs z e. z)
 close-result = equated close.Post (λ κs z e. z) _ (λ κs a z e p. p)
 
 -- The calls of sums.
-pub added-result : Determines added.Post (λ κs z e. z)
-added-result = equated added.Post (λ κs z e. z) _ (λ κs a z e p. p)
+pub shown-plus-result : Determines shown-plus.Post (λ κs z e. z)
+shown-plus-result = equated shown-plus.Post (λ κs z e. z) _ (λ κs a z e p. p)
 
-pub taken-result : Determines taken.Post (λ κs z e. z)
-taken-result = equated taken.Post (λ κs z e. z) _ (λ κs a z e p. p)
+pub shown-less-result : Determines shown-less.Post (λ κs z e. z)
+shown-less-result = equated shown-less.Post (λ κs z e. z) _ (λ κs a z e p. p)
 
 pub length-plus-result : Determines length-plus.Post (λ κs z e. z)
 length-plus-result = determined length-plus.Post (λ κs z e. z) (λ κs z. z .0) (λ κs. length-apart) _ (λ κs a z e p. p)

@@ -12,7 +12,7 @@ use Rattle.sim0mq.specs.Answer.{Answer, fine, refused, _>>_, guard}
 use Rattle.sim0mq.proofs.Rows.{allBelow, below-at}
 use Rattle.kinds.specs.declared.Scalar.{Scalar}
 use Rattle.sums_quantities.specs.declared.shown.Shown.{Shown}
-use Rattle.sums_pairs.specs.Pairs.{Pair, pairs, Quantity, quantityIn, quantityAt, summed, differed}
+use Rattle.sums_pairs.specs.Pairs.{Pair, pairs, Quantity, quantityIn, quantityAt, quantitySum, quantityDifference}
 use Rattle.sums_pairs.specs.Views.{combined}
 use Rattle.sums.specs.Sums.{Measured, measured, isFinite, scalarOf, answerOf, answer}
 use Rattle.sums.specs.Promises.{addsIn, subtractsIn}
@@ -105,14 +105,14 @@ module _ (rule : Quantity → Quantity → Answer Quantity) (page : ℕ → ℕ 
           let r : v < 29 = omega (arith, ltb-false 28 v k) in
           same-bool _ _ (below-at (agreesAt x y u) 29 v (below-at (λ w. allBelow 29 (agreesAt x y w)) 29 u (test x y) l) r)
 
-pub sums-agree : Agrees summed (addsIn pairs)
-unfolding allBelow quantityIn summed
-sums-agree = agreed summed (addsIn pairs) (λ x y. refl) (λ u v h. adds-none-first u h pairs v pairs-low) (λ u v h. adds-none-second v h pairs u pairs-low)
+pub sums-agree : Agrees quantitySum (addsIn pairs)
+unfolding allBelow quantityIn quantitySum
+sums-agree = agreed quantitySum (addsIn pairs) (λ x y. refl) (λ u v h. adds-none-first u h pairs v pairs-low) (λ u v h. adds-none-second v h pairs u pairs-low)
 
-pub differences-agree : Agrees differed (subtractsIn pairs)
-unfolding allBelow quantityIn differed
+pub differences-agree : Agrees quantityDifference (subtractsIn pairs)
+unfolding allBelow quantityIn quantityDifference
 differences-agree =
-    agreed differed (subtractsIn pairs) (λ x y. refl) (λ u v h. subtracts-none-first u h pairs v pairs-low)
+    agreed quantityDifference (subtractsIn pairs) (λ x y. refl) (λ u v h. subtracts-none-first u h pairs v pairs-low)
     (λ u v h. subtracts-none-second v h pairs u pairs-low)
 
 -- what the answer is

@@ -15,7 +15,7 @@ use Rattle.kinds.specs.declared.Scalar.the-variants.{DoubleUnit}
 use Rattle.encoding.specs.Scalars.{markTaken, writable, scalarGiven}
 use Rattle.returning.proofs.ScalarLaws.{scalar-back}
 use Rattle.sums_quantities.specs.Numbers.{plus, less}
-use Rattle.sums_pairs.specs.Pairs.{pairs, Quantity, relative, absolute, unitOf, quantityAt, samePair, summed, differed}
+use Rattle.sums_pairs.specs.Pairs.{pairs, Quantity, relative, absolute, unitOf, quantityAt, samePair, quantitySum, quantityDifference}
 use Rattle.sums.specs.Sums.{finite, isFinite, scalarOf, answerOf, answer}
 use Rattle.sums.specs.Promises.{ComesBack, addsIn, subtractsIn}
 use Rattle.sums.proofs.RuleLaws.{valueOf, IsGiven, Ruled, refuses, combines, IsRule, sum-rule, difference-rule}
@@ -95,8 +95,8 @@ module _ (rule : Quantity → Quantity → Answer Quantity) (page : ℕ → ℕ 
 
 -- what is left of a quantity after another is added to that one again, and gives a quantity of the first one's unit
 -- type
-adds-back : (a b r : Quantity) → differed a b ≡ fine r → (s : Quantity) × (summed b r ≡ fine s) × (unitOf s ≡ unitOf a)
-unfolding summed differed
+adds-back : (a b r : Quantity) → quantityDifference a b ≡ fine r → (s : Quantity) × (quantitySum b r ≡ fine s) × (unitOf s ≡ unitOf a)
+unfolding quantitySum quantityDifference
 adds-back (relative p x) (relative q y) r e =
     let g = guarded (samePair p q) 24 0 (fine (relative p (less x y (x .display)))) e in
     (relative q (plus y (less x y (x .display)) (y .display)), rw (← fine-eq (g .1), ← same-swapped p q, g .0) refl, sym (same-units p q (g .0) .0))
@@ -110,10 +110,10 @@ adds-back (relative p x) (absolute q y) r e = absurd (not-fine e)
 
 -- the answer of adding a quantity, which was read, and one that reading gives, whose sum there is
 added-answer : (y : Float) (n : Mark) (b r s : Quantity) → markTaken n (kindOf (n .unit)) ≡ true → quantityAt (n .unit) (shownOf y n) ≡ fine b
-    → IsGiven r → summed b r ≡ fine s
-    → answer summed (DoubleUnit y n) (scalarOf r) ≡ (guard (isFinite b && isFinite r && isFinite s) 25 0 >> fine (scalarOf s))
+    → IsGiven r → quantitySum b r ≡ fine s
+    → answer quantitySum (DoubleUnit y n) (scalarOf r) ≡ (guard (isFinite b && isFinite r && isFinite s) 25 0 >> fine (scalarOf s))
 added-answer y n b r s t e g f =
-    is-answer summed (addsIn pairs) sums-agree (add binary64) sum-rule y (valueOf r) n (markOf r) t (given-mark r g)
+    is-answer quantitySum (addsIn pairs) sums-agree (add binary64) sum-rule y (valueOf r) n (markOf r) t (given-mark r g)
     ∙ rw (e, given-at r g, f) refl
 
 -- either way the test ends, there is a sum of this unit type or 25
@@ -131,26 +131,26 @@ ruled-given op a b r (combines s v k) e g h = subst IsGiven (fine-eq e) (k g h)
 module _ (x y : Float) (m n : Mark) (s : markTaken m (kindOf (m .unit)) ≡ true) (t : markTaken n (kindOf (n .unit)) ≡ true) where
   abbrev AddsBack : Scalar → Type 0
   AddsBack d =
-      (answer summed (DoubleUnit y n) d ≡ refused 25 0)
-      ⊎ ((z : Float) × (k : Mark) × (answer summed (DoubleUnit y n) d ≡ fine (DoubleUnit z k)) × (k .unit ≡ m .unit))
+      (answer quantitySum (DoubleUnit y n) d ≡ refused 25 0)
+      ⊎ ((z : Float) × (k : Mark) × (answer quantitySum (DoubleUnit y n) d ≡ fine (DoubleUnit z k)) × (k .unit ≡ m .unit))
 
-  combined-back : (a b r : Quantity) → quantityAt (m .unit) (shownOf x m) ≡ fine a → quantityAt (n .unit) (shownOf y n) ≡ fine b → differed a b ≡ fine r
+  combined-back : (a b r : Quantity) → quantityAt (m .unit) (shownOf x m) ≡ fine a → quantityAt (n .unit) (shownOf y n) ≡ fine b → quantityDifference a b ≡ fine r
       → AddsBack (scalarOf r)
   combined-back a b r i j k =
       let back = adds-back a b r k in
       let given = ruled-given (sub binary64) a b r (difference-rule a b) k (operand-given x m a s i) (operand-given y n b t j) in
-      either-way (m .unit) (answer summed (DoubleUnit y n) (scalarOf r)) (back .0)
+      either-way (m .unit) (answer quantitySum (DoubleUnit y n) (scalarOf r)) (back .0)
       (back .2 ∙ found-is a (found pairs (m .unit) (shownOf x m)) i .0) (isFinite b && isFinite r && isFinite (back .0))
       (added-answer y n b r (back .0) t j given (back .1))
 
-  pub taken-back : (d : Scalar) → answer differed (DoubleUnit x m) (DoubleUnit y n) ≡ fine d → AddsBack d
-  taken-back d e = go (outcome differed (subtractsIn pairs) differences-agree (sub binary64) difference-rule _ _)
+  pub taken-back : (d : Scalar) → answer quantityDifference (DoubleUnit x m) (DoubleUnit y n) ≡ fine d → AddsBack d
+  taken-back d e = go (outcome quantityDifference (subtractsIn pairs) differences-agree (sub binary64) difference-rule _ _)
     where
-      is : answer differed (DoubleUnit x m) (DoubleUnit y n)
-          ≡ answerOf differed (record { unit = m .unit; number = shownOf x m }) (record { unit = n .unit; number = shownOf y n })
-      is = is-answer differed (subtractsIn pairs) differences-agree (sub binary64) difference-rule x y m n s t
+      is : answer quantityDifference (DoubleUnit x m) (DoubleUnit y n)
+          ≡ answerOf quantityDifference (record { unit = m .unit; number = shownOf x m }) (record { unit = n .unit; number = shownOf y n })
+      is = is-answer quantityDifference (subtractsIn pairs) differences-agree (sub binary64) difference-rule x y m n s t
 
-      go : Outcome differed (subtractsIn pairs) (record { unit = m .unit; number = shownOf x m }) (record { unit = n .unit; number = shownOf y n })
+      go : Outcome quantityDifference (subtractsIn pairs) (record { unit = m .unit; number = shownOf x m }) (record { unit = n .unit; number = shownOf y n })
           → AddsBack d
       go (apart h f) = absurd (not-fine (sym f ∙ sym is ∙ e))
       go (tested a b r i j k h f) =

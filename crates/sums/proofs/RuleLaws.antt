@@ -9,7 +9,7 @@ use Rattle.sim0mq.specs.Answer.{Answer, fine, refused, _>>_, guard}
 use Rattle.sim0mq.specs.Mark.{plain, kindOf, displayTaken}
 use Rattle.sim0mq.proofs.Answers.{not-fine, fine-eq}
 use Rattle.sums_quantities.specs.declared.shown.Shown.{Shown}
-use Rattle.sums_pairs.specs.Pairs.{Pair, Quantity, relative, absolute, unitOf, numberOf, quantityAt, samePair, ofOnePair, summed, differed}
+use Rattle.sums_pairs.specs.Pairs.{Pair, Quantity, relative, absolute, unitOf, numberOf, quantityAt, samePair, ofOnePair, quantitySum, quantityDifference}
 use Rattle.sums.specs.Sums.{finite, isFinite}
 
 -- a pair of the page is found there by both its unit types, which are plain
@@ -57,15 +57,15 @@ module _ (op : Float → Float → Float) (a b : Quantity) where
       go true = combines r e g
       go false = refuses
 
-pub sum-rule : IsRule (add binary64) summed
-unfolding summed
+pub sum-rule : IsRule (add binary64) quantitySum
+unfolding quantitySum
 sum-rule (relative p x) (relative q y) = one-pair _ _ _ p q _ refl (λ g h. shown-alike (relative p x) (relative p) _ g refl refl refl)
 sum-rule (absolute p x) (relative q y) = one-pair _ _ _ p q _ refl (λ g h. shown-alike (absolute p x) (absolute p) _ g refl refl refl)
 sum-rule (relative p x) (absolute q y) = one-pair _ _ _ p q _ refl (λ g h. shown-alike (absolute q y) (absolute q) _ h refl refl refl)
 sum-rule (absolute p x) (absolute q y) = refuses
 
-pub difference-rule : IsRule (sub binary64) differed
-unfolding differed
+pub difference-rule : IsRule (sub binary64) quantityDifference
+unfolding quantityDifference
 difference-rule (relative p x) (relative q y) = one-pair _ _ _ p q _ refl (λ g h. shown-alike (relative p x) (relative p) _ g refl refl refl)
 difference-rule (absolute p x) (relative q y) = one-pair _ _ _ p q _ refl (λ g h. shown-alike (absolute p x) (absolute p) _ g refl refl refl)
 difference-rule (absolute p x) (absolute q y) = one-pair _ _ _ p q _ refl (λ g h. shown-by-zero p _ (g .onPage) refl)

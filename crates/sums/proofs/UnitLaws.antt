@@ -11,7 +11,7 @@ use Rattle.sim0mq.specs.Answer.{Answer, fine, refused}
 use Rattle.sim0mq.proofs.Answers.{and-true}
 use Rattle.sim0mq.proofs.Rows.{allPass, pass-among}
 use Rattle.sums_quantities.specs.declared.shown.Shown.{Shown}
-use Rattle.sums_pairs.specs.Pairs.{Pair, pairs, Quantity, relative, absolute, quantityIn, quantityAt, samePair, summed}
+use Rattle.sums_pairs.specs.Pairs.{Pair, pairs, Quantity, relative, absolute, quantityIn, quantityAt, samePair, quantitySum}
 use Rattle.sums.specs.Promises.{Relative, Absolute}
 use Rattle.sums.proofs.FloatLaws.{add-swapped}
 
@@ -62,6 +62,6 @@ same-units p q e =
     let both = and-true (eqb (p .relativeUnit) (q .relativeUnit)) (eqb (p .absoluteUnit) (q .absoluteUnit)) e in
     (eqb-true (p .relativeUnit) (q .relativeUnit) (both .0), eqb-true (p .absoluteUnit) (q .absoluteUnit) (both .1))
 
-pub swapped : (p q : Pair) (a b : Shown) → summed (absolute p a) (relative q b) ≡ summed (relative q b) (absolute p a)
-unfolding summed
+pub swapped : (p q : Pair) (a b : Shown) → quantitySum (absolute p a) (relative q b) ≡ quantitySum (relative q b) (absolute p a)
+unfolding quantitySum
 swapped p q a b = rw (same-swapped p q, add-swapped binary64 (a .value) (b .value)) refl

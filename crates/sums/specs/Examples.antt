@@ -11,7 +11,7 @@ use Rattle.sim0mq.specs.Mark.{kindOf, displayTaken}
 use Rattle.kinds.specs.declared.Scalar.{Scalar}
 use Rattle.kinds.specs.declared.Scalar.the-variants.{DoubleUnit, NotNumber}
 use Rattle.encoding.specs.Scalars.{markTaken}
-use Rattle.sums_pairs.specs.Pairs.{quantityIn, summed, differed}
+use Rattle.sums_pairs.specs.Pairs.{quantityIn, quantitySum, quantityDifference}
 use Rattle.sums.specs.Sums.{measured, finite, answer, sumOf, differenceOf}
 
 -- A double with a unit type and a display code; and the number m times 2 to the e.
@@ -37,7 +37,7 @@ pub examples-hold :
     ∷ fine (of 16 (whole 1 0) 1)
     ∷ []
 unfolding
-    measured answer finite quantityIn summed differed markTaken kindOf displayTaken
+    measured answer finite quantityIn quantitySum quantityDifference markTaken kindOf displayTaken
     add sub neg sum round units odd size span climb trailingZeros
 examples-hold = refl
 
@@ -62,6 +62,6 @@ pub refused-examples-hold :
     ∷ refused 17 0
     ∷ []
 unfolding
-    measured answer finite quantityIn summed differed markTaken kindOf displayTaken
+    measured answer finite quantityIn quantitySum quantityDifference markTaken kindOf displayTaken
     add sub neg sum round units odd size span climb trailingZeros
 refused-examples-hold = refl

@@ -8,7 +8,7 @@ use Rattle.kinds.specs.declared.Scalar.{Scalar}
 use Rattle.kinds.specs.declared.Scalar.the-variants.{Byte, Short, Int, Long, Float as Single, Double, Boolean, Char8, Char16, FloatUnit, DoubleUnit, NotNumber}
 use Rattle.encoding.specs.Scalars.{markTaken}
 use Rattle.sums_quantities.specs.declared.shown.Shown.{Shown}
-use Rattle.sums_pairs.specs.Pairs.{Quantity, unitOf, numberOf, quantityAt, summed, differed}
+use Rattle.sums_pairs.specs.Pairs.{Quantity, unitOf, numberOf, quantityAt, quantitySum, quantityDifference}
 
 -- A double with its unit: the unit type, and the number with its display code.
 pub record Measured : Type 0 where
@@ -63,7 +63,7 @@ answer rule a b = do
   answerOf rule m n
 
 abbrev pub sumOf : Scalar → Scalar → Answer Scalar
-sumOf = answer summed
+sumOf = answer quantitySum
 
 abbrev pub differenceOf : Scalar → Scalar → Answer Scalar
-differenceOf = answer differed
+differenceOf = answer quantityDifference

@@ -1,7 +1,7 @@
 // The four pairs of a relative and an absolute quantity: which quantity a unit type says, and the manual's sums and
 // differences of two.
 ghost use mathlib.Core.Path.{_≡_};
-ghost use Rattle.sums_pairs.specs.Pairs.{quantityAt, summed, differed};
+ghost use Rattle.sums_pairs.specs.Pairs.{quantityAt, quantitySum, quantityDifference};
 ghost use Rattle.sums_pairs.specs.Views.{seen, combined};
 use sums_quantities::angles::Angle;
 use sums_quantities::angles::Direction;
@@ -45,7 +45,7 @@ pub fn quantity_of(unit: u8, x: Shown) -> Quantity
 
 // The sum of two quantities, where the manual has one.
 pub fn add(a: Quantity, b: Quantity) -> Quantity
-    ensures { λ r. ⌜ seen r ≡ combined summed (seen a) (seen b) ⌝ }
+    ensures { λ r. ⌜ seen r ≡ combined quantitySum (seen a) (seen b) ⌝ }
 {
     match a {
         Quantity::Length(x) => match b {
@@ -91,7 +91,7 @@ pub fn add(a: Quantity, b: Quantity) -> Quantity
 
 // The difference of two quantities, where the manual has one.
 pub fn subtract(a: Quantity, b: Quantity) -> Quantity
-    ensures { λ r. ⌜ seen r ≡ combined differed (seen a) (seen b) ⌝ }
+    ensures { λ r. ⌜ seen r ≡ combined quantityDifference (seen a) (seen b) ⌝ }
 {
     match a {
         Quantity::Length(x) => match b {

@@ -1,6 +1,6 @@
 // A number with its display code, and the one addition and the one subtraction of them.
 ghost use mathlib.Core.Path.{_≡_};
-ghost use Rattle.sums_quantities.specs.Numbers.{plus, less};
+ghost use Rattle.sums_quantities.specs.Numbers.{plus as plusOf, less as lessOf};
 
 pub struct Shown {
     pub value: f64,
@@ -8,8 +8,8 @@ pub struct Shown {
 }
 
 // a + b, rounded once, shown by d.
-pub fn added(a: Shown, b: Shown, d: u8) -> Shown
-    ensures { λ r. ⌜ r ≡ plus a b d ⌝ }
+pub fn plus(a: Shown, b: Shown, d: u8) -> Shown
+    ensures { λ r. ⌜ r ≡ plusOf a b d ⌝ }
 {
     Shown {
         value: a.value + b.value,
@@ -18,8 +18,8 @@ pub fn added(a: Shown, b: Shown, d: u8) -> Shown
 }
 
 // a - b, rounded once, shown by d.
-pub fn taken(a: Shown, b: Shown, d: u8) -> Shown
-    ensures { λ r. ⌜ r ≡ less a b d ⌝ }
+pub fn less(a: Shown, b: Shown, d: u8) -> Shown
+    ensures { λ r. ⌜ r ≡ lessOf a b d ⌝ }
 {
     Shown {
         value: a.value - b.value,

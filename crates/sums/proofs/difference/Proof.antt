@@ -2,7 +2,7 @@
 use borrow.Author.Needs.{needs}
 use lib.Ieee.{binary64}
 use mathlib.Core.Path.{sym, ap, _∙_}
-use Rattle.sums_pairs.specs.Pairs.{differed}
+use Rattle.sums_pairs.specs.Pairs.{quantityDifference}
 use Rattle.sums.specs.Views.{combinedAs, resulting}
 use Rattle.sums.proofs.FloatLaws.{sub-strict}
 use Rattle.sums.proofs.RuleLaws.{difference-rule}
@@ -32,15 +32,15 @@ returns : tie.Need-returns
 returns c =
     let w = c .before .before .before in
     c .result .ensures
-    ∙ answered differed _ difference-rule (sub-strict binary64) _ _ _
-    (c .before .subtract .ensures ∙ ap (combinedAs differed) (sym (w .x .given .1)) ∙ w .before .before .operands .ensures differed)
+    ∙ answered quantityDifference _ difference-rule (sub-strict binary64) _ _ _
+    (c .before .subtract .ensures ∙ ap (combinedAs quantityDifference) (sym (w .x .given .1)) ∙ w .before .before .operands .ensures quantityDifference)
 
 returns-2 : tie.Need-returns-2
 unfolding resulting
 returns-2 c =
     let w = c .before in
     c .refuse .ensures
-    ∙ answered differed _ difference-rule (sub-strict binary64) _ _ _ (ap (combinedAs differed) (sym (w .enum-told .given .1)) ∙ w .before .before .operands .ensures differed)
+    ∙ answered quantityDifference _ difference-rule (sub-strict binary64) _ _ _ (ap (combinedAs quantityDifference) (sym (w .enum-told .given .1)) ∙ w .before .before .operands .ensures quantityDifference)
 
 pub difference-spec : {M : Type 1} → statement M
 difference-spec =

@@ -2,7 +2,7 @@
 use borrow.Author.Needs.{needs}
 use lib.Ieee.{binary64}
 use mathlib.Core.Path.{sym, ap, _∙_}
-use Rattle.sums_pairs.specs.Pairs.{summed}
+use Rattle.sums_pairs.specs.Pairs.{quantitySum}
 use Rattle.sums.specs.Views.{combinedAs, resulting}
 use Rattle.sums.proofs.FloatLaws.{add-strict}
 use Rattle.sums.proofs.RuleLaws.{sum-rule}
@@ -32,15 +32,15 @@ returns : tie.Need-returns
 returns c =
     let w = c .before .before .before in
     c .result .ensures
-    ∙ answered summed _ sum-rule (add-strict binary64) _ _ _
-    (c .before .add .ensures ∙ ap (combinedAs summed) (sym (w .x .given .1)) ∙ w .before .before .operands .ensures summed)
+    ∙ answered quantitySum _ sum-rule (add-strict binary64) _ _ _
+    (c .before .add .ensures ∙ ap (combinedAs quantitySum) (sym (w .x .given .1)) ∙ w .before .before .operands .ensures quantitySum)
 
 returns-2 : tie.Need-returns-2
 unfolding resulting
 returns-2 c =
     let w = c .before in
     c .refuse .ensures
-    ∙ answered summed _ sum-rule (add-strict binary64) _ _ _ (ap (combinedAs summed) (sym (w .enum-told .given .1)) ∙ w .before .before .operands .ensures summed)
+    ∙ answered quantitySum _ sum-rule (add-strict binary64) _ _ _ (ap (combinedAs quantitySum) (sym (w .enum-told .given .1)) ∙ w .before .before .operands .ensures quantitySum)
 
 pub sum-spec : {M : Type 1} → statement M
 sum-spec =

@@ -4,7 +4,7 @@ use borrow.Author.Needs.{needs}
 use mathlib.Core.Path.{refl}
 use mathlib.Core.List.{[], _∷_}
 use Rattle.sim0mq.proofs.Rows.{allPass}
-use Rattle.sums_pairs.specs.Pairs.{summed}
+use Rattle.sums_pairs.specs.Pairs.{quantitySum}
 use Rattle.sums_pairs.proofs.PairLaws.{not-combined}
 use Rattle.sums_pairs.proofs.add.Statement.{statement}
 use Rattle.sums_pairs.proofs.add.Tie as tie
@@ -109,92 +109,92 @@ enum-told : tie.Need-enum-told
 enum-told c = search needs
 
 returns : tie.Need-returns
-unfolding summed
+unfolding quantitySum
 returns c = rw (c .before .before .before .before .before .a .given .1, c .before .before .b .given .1, c .plus .ensures)
 
 returns-2 : tie.Need-returns-2
-unfolding summed
+unfolding quantitySum
 returns-2 c = rw (c .before .before .before .before .before .a .given .1, c .before .before .b2 .given .1, c .plus-position .ensures)
 
 returns-3 : tie.Need-returns-3
-unfolding allPass summed
+unfolding allPass quantitySum
 returns-3 c =
-    not-combined summed _ (c .before .before .before .before .args .b) _ 2 (3 ∷ 4 ∷ 5 ∷ 6 ∷ 7 ∷ 8 ∷ []) (c .before .before .a .given .1) (c .match2 .keys3) refl
+    not-combined quantitySum _ (c .before .before .before .before .args .b) _ 2 (3 ∷ 4 ∷ 5 ∷ 6 ∷ 7 ∷ 8 ∷ []) (c .before .before .a .given .1) (c .match2 .keys3) refl
 
 returns-4 : tie.Need-returns-4
-unfolding summed
+unfolding quantitySum
 returns-4 c = rw (c .before .before .before .before .before .a2 .given .1, c .before .before .b3 .given .1, c .plus2 .ensures)
 
 returns-5 : tie.Need-returns-5
-unfolding allPass summed
+unfolding allPass quantitySum
 returns-5 c =
-    not-combined summed _ (c .before .before .before .before .args .b) _ 1 (2 ∷ 3 ∷ 4 ∷ 5 ∷ 6 ∷ 7 ∷ 8 ∷ []) (c .before .before .a2 .given .1) (c .match3 .keys2) refl
+    not-combined quantitySum _ (c .before .before .before .before .args .b) _ 1 (2 ∷ 3 ∷ 4 ∷ 5 ∷ 6 ∷ 7 ∷ 8 ∷ []) (c .before .before .a2 .given .1) (c .match3 .keys2) refl
 
 returns-6 : tie.Need-returns-6
-unfolding summed
+unfolding quantitySum
 returns-6 c = rw (c .before .before .before .before .before .a3 .given .1, c .before .before .b4 .given .1, c .plus3 .ensures)
 
 returns-7 : tie.Need-returns-7
-unfolding summed
+unfolding quantitySum
 returns-7 c = rw (c .before .before .before .before .before .a3 .given .1, c .before .before .b5 .given .1, c .plus-time .ensures)
 
 returns-8 : tie.Need-returns-8
-unfolding allPass summed
+unfolding allPass quantitySum
 returns-8 c =
-    not-combined summed _ (c .before .before .before .before .args .b) _ 0 (1 ∷ 4 ∷ 5 ∷ 6 ∷ 7 ∷ 8 ∷ []) (c .before .before .a3 .given .1) (c .match4 .keys3) refl
+    not-combined quantitySum _ (c .before .before .before .before .args .b) _ 0 (1 ∷ 4 ∷ 5 ∷ 6 ∷ 7 ∷ 8 ∷ []) (c .before .before .a3 .given .1) (c .match4 .keys3) refl
 
 returns-9 : tie.Need-returns-9
-unfolding summed
+unfolding quantitySum
 returns-9 c = rw (c .before .before .before .before .before .a4 .given .1, c .before .before .b6 .given .1, c .plus4 .ensures)
 
 returns-10 : tie.Need-returns-10
-unfolding allPass summed
+unfolding allPass quantitySum
 returns-10 c =
-    not-combined summed _ (c .before .before .before .before .args .b) _ 0 (1 ∷ 3 ∷ 4 ∷ 5 ∷ 6 ∷ 7 ∷ 8 ∷ []) (c .before .before .a4 .given .1) (c .match5 .keys2) refl
+    not-combined quantitySum _ (c .before .before .before .before .args .b) _ 0 (1 ∷ 3 ∷ 4 ∷ 5 ∷ 6 ∷ 7 ∷ 8 ∷ []) (c .before .before .a4 .given .1) (c .match5 .keys2) refl
 
 returns-11 : tie.Need-returns-11
-unfolding summed
+unfolding quantitySum
 returns-11 c = rw (c .before .before .before .before .before .a5 .given .1, c .before .before .b7 .given .1, c .plus5 .ensures)
 
 returns-12 : tie.Need-returns-12
-unfolding summed
+unfolding quantitySum
 returns-12 c = rw (c .before .before .before .before .before .a5 .given .1, c .before .before .b8 .given .1, c .plus-direction .ensures)
 
 returns-13 : tie.Need-returns-13
-unfolding allPass summed
+unfolding allPass quantitySum
 returns-13 c =
-    not-combined summed _ (c .before .before .before .before .args .b) _ 0 (1 ∷ 2 ∷ 3 ∷ 6 ∷ 7 ∷ 8 ∷ []) (c .before .before .a5 .given .1) (c .match6 .keys3) refl
+    not-combined quantitySum _ (c .before .before .before .before .args .b) _ 0 (1 ∷ 2 ∷ 3 ∷ 6 ∷ 7 ∷ 8 ∷ []) (c .before .before .a5 .given .1) (c .match6 .keys3) refl
 
 returns-14 : tie.Need-returns-14
-unfolding summed
+unfolding quantitySum
 returns-14 c = rw (c .before .before .before .before .before .a6 .given .1, c .before .before .b9 .given .1, c .plus6 .ensures)
 
 returns-15 : tie.Need-returns-15
-unfolding allPass summed
+unfolding allPass quantitySum
 returns-15 c =
-    not-combined summed _ (c .before .before .before .before .args .b) _ 0 (1 ∷ 2 ∷ 3 ∷ 5 ∷ 6 ∷ 7 ∷ 8 ∷ []) (c .before .before .a6 .given .1) (c .match7 .keys2) refl
+    not-combined quantitySum _ (c .before .before .before .before .args .b) _ 0 (1 ∷ 2 ∷ 3 ∷ 5 ∷ 6 ∷ 7 ∷ 8 ∷ []) (c .before .before .a6 .given .1) (c .match7 .keys2) refl
 
 returns-16 : tie.Need-returns-16
-unfolding summed
+unfolding quantitySum
 returns-16 c = rw (c .before .before .before .before .before .a7 .given .1, c .before .before .b10 .given .1, c .plus7 .ensures)
 
 returns-17 : tie.Need-returns-17
-unfolding summed
+unfolding quantitySum
 returns-17 c = rw (c .before .before .before .before .before .a7 .given .1, c .before .before .b11 .given .1, c .plus-absolute-temperature .ensures)
 
 returns-18 : tie.Need-returns-18
-unfolding allPass summed
+unfolding allPass quantitySum
 returns-18 c =
-    not-combined summed _ (c .before .before .before .before .args .b) _ 0 (1 ∷ 2 ∷ 3 ∷ 4 ∷ 5 ∷ 8 ∷ []) (c .before .before .a7 .given .1) (c .match8 .keys3) refl
+    not-combined quantitySum _ (c .before .before .before .before .args .b) _ 0 (1 ∷ 2 ∷ 3 ∷ 4 ∷ 5 ∷ 8 ∷ []) (c .before .before .a7 .given .1) (c .match8 .keys3) refl
 
 returns-19 : tie.Need-returns-19
-unfolding summed
+unfolding quantitySum
 returns-19 c = rw (c .before .before .before .before .before .a8 .given .1, c .before .before .b12 .given .1, c .plus8 .ensures)
 
 returns-20 : tie.Need-returns-20
-unfolding allPass summed
+unfolding allPass quantitySum
 returns-20 c =
-    not-combined summed _ (c .before .before .before .before .args .b) _ 0 (1 ∷ 2 ∷ 3 ∷ 4 ∷ 5 ∷ 7 ∷ 8 ∷ []) (c .before .before .a8 .given .1) (c .match9 .keys2) refl
+    not-combined quantitySum _ (c .before .before .before .before .args .b) _ 0 (1 ∷ 2 ∷ 3 ∷ 4 ∷ 5 ∷ 7 ∷ 8 ∷ []) (c .before .before .a8 .given .1) (c .match9 .keys2) refl
 
 returns-21 : tie.Need-returns-21
 returns-21 c = search needs

@@ -4,7 +4,7 @@ use borrow.Author.Needs.{needs}
 use mathlib.Core.Path.{refl}
 use mathlib.Core.List.{[], _∷_}
 use Rattle.sim0mq.proofs.Rows.{allPass}
-use Rattle.sums_pairs.specs.Pairs.{differed}
+use Rattle.sums_pairs.specs.Pairs.{quantityDifference}
 use Rattle.sums_pairs.proofs.PairLaws.{not-combined}
 use Rattle.sums_pairs.proofs.subtract.Statement.{statement}
 use Rattle.sums_pairs.proofs.subtract.Tie as tie
@@ -109,92 +109,92 @@ enum-told : tie.Need-enum-told
 enum-told c = search needs
 
 returns : tie.Need-returns
-unfolding differed
+unfolding quantityDifference
 returns c = rw (c .before .before .before .before .before .a .given .1, c .before .before .b .given .1, c .less .ensures)
 
 returns-2 : tie.Need-returns-2
-unfolding allPass differed
+unfolding allPass quantityDifference
 returns-2 c =
-    not-combined differed _ (c .before .before .before .before .args .b) _ 1 (2 ∷ 3 ∷ 4 ∷ 5 ∷ 6 ∷ 7 ∷ 8 ∷ []) (c .before .before .a .given .1) (c .match2 .keys2) refl
+    not-combined quantityDifference _ (c .before .before .before .before .args .b) _ 1 (2 ∷ 3 ∷ 4 ∷ 5 ∷ 6 ∷ 7 ∷ 8 ∷ []) (c .before .before .a .given .1) (c .match2 .keys2) refl
 
 returns-3 : tie.Need-returns-3
-unfolding differed
+unfolding quantityDifference
 returns-3 c = rw (c .before .before .before .before .before .a2 .given .1, c .before .before .b2 .given .1, c .less2 .ensures)
 
 returns-4 : tie.Need-returns-4
-unfolding differed
+unfolding quantityDifference
 returns-4 c = rw (c .before .before .before .before .before .a2 .given .1, c .before .before .b3 .given .1, c .less-position .ensures)
 
 returns-5 : tie.Need-returns-5
-unfolding allPass differed
+unfolding allPass quantityDifference
 returns-5 c =
-    not-combined differed _ (c .before .before .before .before .args .b) _ 2 (3 ∷ 4 ∷ 5 ∷ 6 ∷ 7 ∷ 8 ∷ []) (c .before .before .a2 .given .1) (c .match3 .keys3) refl
+    not-combined quantityDifference _ (c .before .before .before .before .args .b) _ 2 (3 ∷ 4 ∷ 5 ∷ 6 ∷ 7 ∷ 8 ∷ []) (c .before .before .a2 .given .1) (c .match3 .keys3) refl
 
 returns-6 : tie.Need-returns-6
-unfolding differed
+unfolding quantityDifference
 returns-6 c = rw (c .before .before .before .before .before .a3 .given .1, c .before .before .b4 .given .1, c .less3 .ensures)
 
 returns-7 : tie.Need-returns-7
-unfolding allPass differed
+unfolding allPass quantityDifference
 returns-7 c =
-    not-combined differed _ (c .before .before .before .before .args .b) _ 0 (1 ∷ 3 ∷ 4 ∷ 5 ∷ 6 ∷ 7 ∷ 8 ∷ []) (c .before .before .a3 .given .1) (c .match4 .keys2) refl
+    not-combined quantityDifference _ (c .before .before .before .before .args .b) _ 0 (1 ∷ 3 ∷ 4 ∷ 5 ∷ 6 ∷ 7 ∷ 8 ∷ []) (c .before .before .a3 .given .1) (c .match4 .keys2) refl
 
 returns-8 : tie.Need-returns-8
-unfolding differed
+unfolding quantityDifference
 returns-8 c = rw (c .before .before .before .before .before .a4 .given .1, c .before .before .b5 .given .1, c .less4 .ensures)
 
 returns-9 : tie.Need-returns-9
-unfolding differed
+unfolding quantityDifference
 returns-9 c = rw (c .before .before .before .before .before .a4 .given .1, c .before .before .b6 .given .1, c .less-time .ensures)
 
 returns-10 : tie.Need-returns-10
-unfolding allPass differed
+unfolding allPass quantityDifference
 returns-10 c =
-    not-combined differed _ (c .before .before .before .before .args .b) _ 0 (1 ∷ 4 ∷ 5 ∷ 6 ∷ 7 ∷ 8 ∷ []) (c .before .before .a4 .given .1) (c .match5 .keys3) refl
+    not-combined quantityDifference _ (c .before .before .before .before .args .b) _ 0 (1 ∷ 4 ∷ 5 ∷ 6 ∷ 7 ∷ 8 ∷ []) (c .before .before .a4 .given .1) (c .match5 .keys3) refl
 
 returns-11 : tie.Need-returns-11
-unfolding differed
+unfolding quantityDifference
 returns-11 c = rw (c .before .before .before .before .before .a5 .given .1, c .before .before .b7 .given .1, c .less5 .ensures)
 
 returns-12 : tie.Need-returns-12
-unfolding allPass differed
+unfolding allPass quantityDifference
 returns-12 c =
-    not-combined differed _ (c .before .before .before .before .args .b) _ 0 (1 ∷ 2 ∷ 3 ∷ 5 ∷ 6 ∷ 7 ∷ 8 ∷ []) (c .before .before .a5 .given .1) (c .match6 .keys2) refl
+    not-combined quantityDifference _ (c .before .before .before .before .args .b) _ 0 (1 ∷ 2 ∷ 3 ∷ 5 ∷ 6 ∷ 7 ∷ 8 ∷ []) (c .before .before .a5 .given .1) (c .match6 .keys2) refl
 
 returns-13 : tie.Need-returns-13
-unfolding differed
+unfolding quantityDifference
 returns-13 c = rw (c .before .before .before .before .before .a6 .given .1, c .before .before .b8 .given .1, c .less6 .ensures)
 
 returns-14 : tie.Need-returns-14
-unfolding differed
+unfolding quantityDifference
 returns-14 c = rw (c .before .before .before .before .before .a6 .given .1, c .before .before .b9 .given .1, c .less-direction .ensures)
 
 returns-15 : tie.Need-returns-15
-unfolding allPass differed
+unfolding allPass quantityDifference
 returns-15 c =
-    not-combined differed _ (c .before .before .before .before .args .b) _ 0 (1 ∷ 2 ∷ 3 ∷ 6 ∷ 7 ∷ 8 ∷ []) (c .before .before .a6 .given .1) (c .match7 .keys3) refl
+    not-combined quantityDifference _ (c .before .before .before .before .args .b) _ 0 (1 ∷ 2 ∷ 3 ∷ 6 ∷ 7 ∷ 8 ∷ []) (c .before .before .a6 .given .1) (c .match7 .keys3) refl
 
 returns-16 : tie.Need-returns-16
-unfolding differed
+unfolding quantityDifference
 returns-16 c = rw (c .before .before .before .before .before .a7 .given .1, c .before .before .b10 .given .1, c .less7 .ensures)
 
 returns-17 : tie.Need-returns-17
-unfolding allPass differed
+unfolding allPass quantityDifference
 returns-17 c =
-    not-combined differed _ (c .before .before .before .before .args .b) _ 0 (1 ∷ 2 ∷ 3 ∷ 4 ∷ 5 ∷ 7 ∷ 8 ∷ []) (c .before .before .a7 .given .1) (c .match8 .keys2) refl
+    not-combined quantityDifference _ (c .before .before .before .before .args .b) _ 0 (1 ∷ 2 ∷ 3 ∷ 4 ∷ 5 ∷ 7 ∷ 8 ∷ []) (c .before .before .a7 .given .1) (c .match8 .keys2) refl
 
 returns-18 : tie.Need-returns-18
-unfolding differed
+unfolding quantityDifference
 returns-18 c = rw (c .before .before .before .before .before .a8 .given .1, c .before .before .b11 .given .1, c .less8 .ensures)
 
 returns-19 : tie.Need-returns-19
-unfolding differed
+unfolding quantityDifference
 returns-19 c = rw (c .before .before .before .before .before .a8 .given .1, c .before .before .b12 .given .1, c .less-absolute-temperature .ensures)
 
 returns-20 : tie.Need-returns-20
-unfolding allPass differed
+unfolding allPass quantityDifference
 returns-20 c =
-    not-combined differed _ (c .before .before .before .before .args .b) _ 0 (1 ∷ 2 ∷ 3 ∷ 4 ∷ 5 ∷ 8 ∷ []) (c .before .before .a8 .given .1) (c .match9 .keys3) refl
+    not-combined quantityDifference _ (c .before .before .before .before .args .b) _ 0 (1 ∷ 2 ∷ 3 ∷ 4 ∷ 5 ∷ 8 ∷ []) (c .before .before .a8 .given .1) (c .match9 .keys3) refl
 
 returns-21 : tie.Need-returns-21
 returns-21 c = search needs
