@@ -14,7 +14,7 @@ use Rattle.kinds.specs.declared.Scalar.{Scalar}
 use Rattle.sums_quantities.specs.declared.shown.Shown.{Shown}
 use Rattle.sums_pairs.specs.Pairs.{Pair, pairs, Quantity, quantityIn, quantityAt, quantitySum, quantityDifference}
 use Rattle.sums_pairs.specs.Views.{combined}
-use Rattle.sums.specs.Sums.{Measured, measured, isFinite, scalarOf, answerOf, answer}
+use Rattle.sums.specs.Sums.{Measured, measured, isFinite, asScalar, answerOf, answer}
 use Rattle.sums.specs.Promises.{addsIn, subtractsIn}
 use Rattle.sums.proofs.RuleLaws.{Ruled, refuses, IsRule}
 use Rattle.sums.proofs.ReadLaws.{found, found-none}
@@ -120,7 +120,7 @@ pub data Outcome (rule : Quantity → Quantity → Answer Quantity) (page : ℕ 
   apart : page (m .unit) (n .unit) ≡ false → answerOf rule m n ≡ refused 24 0 → Outcome rule page m n
   tested : (x y r : Quantity) → quantityAt (m .unit) (m .number) ≡ fine x → quantityAt (n .unit) (n .number) ≡ fine y → rule x y ≡ fine r
       → page (m .unit) (n .unit) ≡ true
-      → answerOf rule m n ≡ (guard (isFinite x && isFinite y && isFinite r) 25 0 >> fine (scalarOf r)) → Outcome rule page m n
+      → answerOf rule m n ≡ (guard (isFinite x && isFinite y && isFinite r) 25 0 >> fine (asScalar r)) → Outcome rule page m n
 
 module _ (rule : Quantity → Quantity → Answer Quantity) (page : ℕ → ℕ → Bool) (agrees : Agrees rule page) (op : Float → Float → Float)
     (is : IsRule op rule) (m n : Measured) where

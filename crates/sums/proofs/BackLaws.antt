@@ -16,7 +16,7 @@ use Rattle.encoding.specs.Scalars.{markTaken, writable, scalarGiven}
 use Rattle.returning.proofs.ScalarLaws.{scalar-back}
 use Rattle.sums_quantities.specs.Numbers.{plus, less}
 use Rattle.sums_pairs.specs.Pairs.{pairs, Quantity, relative, absolute, unitOf, quantityAt, samePair, quantitySum, quantityDifference}
-use Rattle.sums.specs.Sums.{finite, isFinite, scalarOf, answerOf, answer}
+use Rattle.sums.specs.Sums.{finite, isFinite, asScalar, answerOf, answer}
 use Rattle.sums.specs.Promises.{ComesBack, addsIn, subtractsIn}
 use Rattle.sums.proofs.RuleLaws.{valueOf, IsGiven, Ruled, refuses, combines, IsRule, sum-rule, difference-rule}
 use Rattle.sums.proofs.ReadLaws.{shownOf, IsRead, operand, noOperand, is-read, found, found-is, markOf, given-mark, given-at, operand-given}
@@ -34,7 +34,7 @@ finite-number (fin s m e) h = refl
 -- what a rule gives of two operands: a quantity that reading gives, by the operation on two numbers
 pub record Gives (op : Float → Float → Float) (r : Scalar) : Type 0 where
   pub quantity : Quantity
-  pub itself : r ≡ scalarOf quantity
+  pub itself : r ≡ asScalar quantity
   pub isGiven : IsGiven quantity
   pub isFine : isFinite quantity ≡ true
   pub x : Float
@@ -47,10 +47,10 @@ module _ (rule : Quantity → Quantity → Answer Quantity) (page : ℕ → ℕ 
   gives a b r e = go (is-read a) (is-read b)
     where
       one : (x y q : Quantity) (o : Answer Quantity) → Ruled op x y o → o ≡ fine q → IsGiven x → IsGiven y
-          → (guard (isFinite x && isFinite y && isFinite q) 25 0 >> fine (scalarOf q)) ≡ fine r → Gives op r
+          → (guard (isFinite x && isFinite y && isFinite q) 25 0 >> fine (asScalar q)) ≡ fine r → Gives op r
       one x y q o refuses h g k f = absurd (not-fine h)
       one x y q o (combines s v j) h g k f =
-          let both = guarded (isFinite x && isFinite y && isFinite q) 25 0 (fine (scalarOf q)) f in
+          let both = guarded (isFinite x && isFinite y && isFinite q) 25 0 (fine (asScalar q)) f in
           record {
             quantity = q;
             itself = sym (fine-eq (both .1));
@@ -80,7 +80,7 @@ module _ (rule : Quantity → Quantity → Answer Quantity) (page : ℕ → ℕ 
       let q = g .quantity in
       let mark : markTaken (markOf q) (kindOf (unitOf q)) ≡ true = given-mark q (g .isGiven) in
       let held : T (fits binary64 (valueOf q)) = subst (λ (z : Float). T (fits binary64 z)) (sym (g .computed)) (fit (g .x) (g .y)) in
-      let may : writable (scalarOf q) ≡ true = rw (finite-number (valueOf q) (g .isFine)) mark in
+      let may : writable (asScalar q) ≡ true = rw (finite-number (valueOf q) (g .isFine)) mark in
       subst ComesBack (sym (g .itself))
       (record {
         value = valueOf q;
@@ -90,7 +90,7 @@ module _ (rule : Quantity → Quantity → Answer Quantity) (page : ℕ → ℕ 
         taken = mark;
         held = held;
         given = rw may refl;
-        back = scalar-back (scalarOf q) may held;
+        back = scalar-back (asScalar q) may held;
       })
 
 -- what is left of a quantity after another is added to that one again, and gives a quantity of the first one's unit
@@ -111,14 +111,14 @@ adds-back (relative p x) (absolute q y) r e = absurd (not-fine e)
 -- the answer of adding a quantity, which was read, and one that reading gives, whose sum there is
 added-answer : (y : Float) (n : Mark) (b r s : Quantity) → markTaken n (kindOf (n .unit)) ≡ true → quantityAt (n .unit) (shownOf y n) ≡ fine b
     → IsGiven r → quantitySum b r ≡ fine s
-    → answer quantitySum (DoubleUnit y n) (scalarOf r) ≡ (guard (isFinite b && isFinite r && isFinite s) 25 0 >> fine (scalarOf s))
+    → answer quantitySum (DoubleUnit y n) (asScalar r) ≡ (guard (isFinite b && isFinite r && isFinite s) 25 0 >> fine (asScalar s))
 added-answer y n b r s t e g f =
     is-answer quantitySum (addsIn pairs) sums-agree (add binary64) sum-rule y (valueOf r) n (markOf r) t (given-mark r g)
     ∙ rw (e, given-at r g, f) refl
 
 -- either way the test ends, there is a sum of this unit type or 25
 module _ (u : ℕ) (d : Answer Scalar) (s : Quantity) (is : unitOf s ≡ u) where
-  either-way : (c : Bool) → d ≡ (guard c 25 0 >> fine (scalarOf s))
+  either-way : (c : Bool) → d ≡ (guard c 25 0 >> fine (asScalar s))
       → (d ≡ refused 25 0) ⊎ ((z : Float) × (k : Mark) × (d ≡ fine (DoubleUnit z k)) × (k .unit ≡ u))
   either-way true e = inr (valueOf s, markOf s, e, is)
   either-way false e = inl e
@@ -135,11 +135,11 @@ module _ (x y : Float) (m n : Mark) (s : markTaken m (kindOf (m .unit)) ≡ true
       ⊎ ((z : Float) × (k : Mark) × (answer quantitySum (DoubleUnit y n) d ≡ fine (DoubleUnit z k)) × (k .unit ≡ m .unit))
 
   combined-back : (a b r : Quantity) → quantityAt (m .unit) (shownOf x m) ≡ fine a → quantityAt (n .unit) (shownOf y n) ≡ fine b → quantityDifference a b ≡ fine r
-      → AddsBack (scalarOf r)
+      → AddsBack (asScalar r)
   combined-back a b r i j k =
       let back = adds-back a b r k in
       let given = ruled-given (sub binary64) a b r (difference-rule a b) k (operand-given x m a s i) (operand-given y n b t j) in
-      either-way (m .unit) (answer quantitySum (DoubleUnit y n) (scalarOf r)) (back .0)
+      either-way (m .unit) (answer quantitySum (DoubleUnit y n) (asScalar r)) (back .0)
       (back .2 ∙ found-is a (found pairs (m .unit) (shownOf x m)) i .0) (isFinite b && isFinite r && isFinite (back .0))
       (added-answer y n b r (back .0) t j given (back .1))
 
@@ -154,5 +154,5 @@ module _ (x y : Float) (m n : Mark) (s : markTaken m (kindOf (m .unit)) ≡ true
           → AddsBack d
       go (apart h f) = absurd (not-fine (sym f ∙ sym is ∙ e))
       go (tested a b r i j k h f) =
-          subst AddsBack (fine-eq (guarded (isFinite a && isFinite b && isFinite r) 25 0 (fine (scalarOf r)) (sym f ∙ sym is ∙ e) .1))
+          subst AddsBack (fine-eq (guarded (isFinite a && isFinite b && isFinite r) 25 0 (fine (asScalar r)) (sym f ∙ sym is ∙ e) .1))
           (combined-back a b r i j k)

@@ -14,7 +14,7 @@ use Rattle.encoding.specs.Scalars.{scalarText, markTaken, writable}
 use Rattle.returning.proofs.ScalarLaws.{scalar-back}
 use Rattle.sums_quantities.specs.declared.shown.Shown.{Shown}
 use Rattle.sums_pairs.specs.Pairs.{Pair, pairs, relative, absolute, quantitySum, quantityDifference}
-use Rattle.sums.specs.Sums.{measured, finite, isFinite, scalarOf, answerOf, answer}
+use Rattle.sums.specs.Sums.{measured, finite, isFinite, asScalar, answerOf, answer}
 use Rattle.sums.specs.Promises.{IsTaken, Taken-is-what-reading-gives, Absolutes-are-never-added, Either-order, Difference-adds-back, Result-comes-back, addsIn, subtractsIn, Refusals-in-order}
 use Rattle.sums.proofs.RuleLaws.{sum-rule, difference-rule}
 use Rattle.sums.proofs.ReadLaws.{shownOf, IsRead, operand, noOperand, is-read}
@@ -43,11 +43,11 @@ unfolding answer measured
 either-order x y m n u v = go (markTaken m (kindOf (m .unit))) (markTaken n (kindOf (n .unit)))
   where
     ordered : (p q : Pair) (a b : Shown)
-        → (quantitySum (absolute p a) (relative q b) >>= λ r. guard (finite (a .value) && finite (b .value) && isFinite r) 25 0 >> fine (scalarOf r))
-        ≡ (quantitySum (relative q b) (absolute p a) >>= λ r. guard (finite (b .value) && finite (a .value) && isFinite r) 25 0 >> fine (scalarOf r))
+        → (quantitySum (absolute p a) (relative q b) >>= λ r. guard (finite (a .value) && finite (b .value) && isFinite r) 25 0 >> fine (asScalar r))
+        ≡ (quantitySum (relative q b) (absolute p a) >>= λ r. guard (finite (b .value) && finite (a .value) && isFinite r) 25 0 >> fine (asScalar r))
     ordered p q a b =
         rw (swapped p q a b)
-        (ap (λ (t : Bool). quantitySum (relative q b) (absolute p a) >>= λ r. guard (t && isFinite r) 25 0 >> fine (scalarOf r))
+        (ap (λ (t : Bool). quantitySum (relative q b) (absolute p a) >>= λ r. guard (t && isFinite r) 25 0 >> fine (asScalar r))
         (and-comm (finite (a .value)) (finite (b .value))))
 
     go : (b c : Bool)

@@ -17,7 +17,7 @@ use Rattle.kinds.specs.declared.Scalar.the-variants.{DoubleUnit}
 use Rattle.encoding.specs.Scalars.{markTaken}
 use Rattle.sums_quantities.specs.declared.shown.Shown.{Shown}
 use Rattle.sums_pairs.specs.Pairs.{pairs, Quantity, numberOf, quantityAt}
-use Rattle.sums.specs.Sums.{Measured, measured, finite, isFinite, scalarOf, answerOf, answer}
+use Rattle.sums.specs.Sums.{Measured, measured, finite, isFinite, asScalar, answerOf, answer}
 use Rattle.sums.specs.Promises.{NoOperand, Refuses}
 use Rattle.sums.proofs.RuleLaws.{valueOf, Ruled, refuses, combines, IsRule}
 use Rattle.sums.proofs.ReadLaws.{shownOf, IsRead, operand, noOperand, is-read, found, found-is}
@@ -78,7 +78,7 @@ module _ (rule : Quantity → Quantity → Answer Quantity) (page : ℕ → ℕ 
         go : Outcome rule page left right → page (m .unit) (n .unit) ≡ false
         go (apart h f) = h
         go (tested a b r i j k h f) =
-            let z : _≡_ {A = ℕ} 25 24 = guard-number (isFinite a && isFinite b && isFinite r) (scalarOf r) 24 0 (sym f ∙ sym is-answer ∙ e) .0 in absurd (omega arith)
+            let z : _≡_ {A = ℕ} 25 24 = guard-number (isFinite a && isFinite b && isFinite r) (asScalar r) 24 0 (sym f ∙ sym is-answer ∙ e) .0 in absurd (omega arith)
 
     page-refuses : page (m .unit) (n .unit) ≡ false → answer rule (DoubleUnit x m) (DoubleUnit y n) ≡ refused 24 0
     page-refuses e = go (outcome rule page agrees op is left right)
@@ -94,7 +94,7 @@ module _ (rule : Quantity → Quantity → Answer Quantity) (page : ℕ → ℕ 
         where
           go : Outcome rule page left right → finite x && finite y && finite (op x y) ≡ false
           go (apart h f) = absurd (false≢true (sym h ∙ in-page))
-          go (tested a b r i j k h f) = sym (same-tests left right a b r i j k) ∙ guard-failed (isFinite a && isFinite b && isFinite r) (scalarOf r) (sym f ∙ sym is-answer ∙ e)
+          go (tested a b r i j k h f) = sym (same-tests left right a b r i j k) ∙ guard-failed (isFinite a && isFinite b && isFinite r) (asScalar r) (sym f ∙ sym is-answer ∙ e)
 
       refused-as-infinite : finite x && finite y && finite (op x y) ≡ false → answer rule (DoubleUnit x m) (DoubleUnit y n) ≡ refused 25 0
       refused-as-infinite e = go (outcome rule page agrees op is left right)
@@ -102,7 +102,7 @@ module _ (rule : Quantity → Quantity → Answer Quantity) (page : ℕ → ℕ 
           go : Outcome rule page left right → answer rule (DoubleUnit x m) (DoubleUnit y n) ≡ refused 25 0
           go (apart h f) = absurd (false≢true (sym h ∙ in-page))
           go (tested a b r i j k h f) =
-              is-answer ∙ f ∙ ap (λ (c : Bool). guard c 25 0 >> fine (scalarOf r)) (same-tests left right a b r i j k ∙ e)
+              is-answer ∙ f ∙ ap (λ (c : Bool). guard c 25 0 >> fine (asScalar r)) (same-tests left right a b r i j k ∙ e)
 
   -- every refusal is one of the three, at 0
   listed : (a b : Scalar) (k p : ℕ) → answer rule a b ≡ refused k p → (among k (17 ∷ 24 ∷ 25 ∷ []) ≡ true) × (p ≡ 0)
@@ -115,7 +115,7 @@ module _ (rule : Quantity → Quantity → Answer Quantity) (page : ℕ → ℕ 
       two : (m n : Measured) → answer rule a b ≡ answerOf rule m n → Outcome rule page m n → (among k (17 ∷ 24 ∷ 25 ∷ []) ≡ true) × (p ≡ 0)
       two m n i (apart h f) = is-listed 24 (same-number (sym f ∙ sym i ∙ e)) refl
       two m n i (tested x y r u v g h f) =
-          is-listed 25 (guard-number (isFinite x && isFinite y && isFinite r) (scalarOf r) k p (sym f ∙ sym i ∙ e)) refl
+          is-listed 25 (guard-number (isFinite x && isFinite y && isFinite r) (asScalar r) k p (sym f ∙ sym i ∙ e)) refl
 
       go : IsRead a → IsRead b → (among k (17 ∷ 24 ∷ 25 ∷ []) ≡ true) × (p ≡ 0)
       go (noOperand h f) j = is-listed 17 (same-number (sym (answer-first rule a b f) ∙ e)) refl
@@ -129,7 +129,7 @@ module _ (rule : Quantity → Quantity → Answer Quantity) (page : ℕ → ℕ 
       two : (m n : Measured) → answer rule a b ≡ answerOf rule m n → Outcome rule page m n → ⊥
       two m n i (apart h f) = let z : _≡_ {A = ℕ} 24 17 = same-number (sym f ∙ sym i ∙ e) .0 in omega arith
       two m n i (tested x y r u v g h f) =
-          let z : _≡_ {A = ℕ} 25 17 = guard-number (isFinite x && isFinite y && isFinite r) (scalarOf r) 17 0 (sym f ∙ sym i ∙ e) .0 in omega arith
+          let z : _≡_ {A = ℕ} 25 17 = guard-number (isFinite x && isFinite y && isFinite r) (asScalar r) 17 0 (sym f ∙ sym i ∙ e) .0 in omega arith
 
       go : IsRead a → IsRead b → NoOperand a ⊎ NoOperand b
       go (noOperand h f) j = inl h

@@ -17,13 +17,13 @@ use Rattle.encoding.specs.Scalars.{markTaken}
 use Rattle.sums_quantities.specs.declared.shown.Shown.{Shown}
 use Rattle.sums_pairs.specs.Pairs.{Quantity, quantityAt}
 use Rattle.sums_pairs.specs.Views.{combined}
-use Rattle.sums.specs.Sums.{Measured, measured, finite, isFinite, scalarOf, answerOf, answer}
-use Rattle.sums.specs.Views.{quantityOf, combinedOf, told, resulting}
+use Rattle.sums.specs.Sums.{Measured, measured, finite, isFinite, asScalar, answerOf, answer}
+use Rattle.sums.specs.Views.{readOf, combinedOf, told, resulting}
 use Rattle.sums.proofs.RuleLaws.{IsRule, Strict, rule-strict}
 
 -- a scalar of any case but a double with its mark is refused by 17
-pub no-double : (a : Scalar) → OneOf (0 ∷ 1 ∷ 2 ∷ 3 ∷ 4 ∷ 5 ∷ 6 ∷ 7 ∷ 8 ∷ 9 ∷ 11 ∷ []) (tagOf the-type a) → quantityOf a ≡ refused 17 0
-unfolding quantityOf measured
+pub no-double : (a : Scalar) → OneOf (0 ∷ 1 ∷ 2 ∷ 3 ∷ 4 ∷ 5 ∷ 6 ∷ 7 ∷ 8 ∷ 9 ∷ 11 ∷ []) (tagOf the-type a) → readOf a ≡ refused 17 0
+unfolding readOf measured
 no-double (Byte z) h = refl
 no-double (Short z) h = refl
 no-double (Int z) h = refl
@@ -39,27 +39,27 @@ no-double (NotNumber c) h = refl
 
 -- so is one whose mark is not taken; and with a mark that is, it is the quantity of its unit type
 module _ (x : Float) (m : Mark) where
-  pub mark-untaken : markTaken m (kindOf (m .unit)) ≡ false → quantityOf (DoubleUnit x m) ≡ refused 17 0
-  unfolding quantityOf measured
+  pub mark-untaken : markTaken m (kindOf (m .unit)) ≡ false → readOf (DoubleUnit x m) ≡ refused 17 0
+  unfolding readOf measured
   mark-untaken e = rw e
 
   pub mark-taken : markTaken m (kindOf (m .unit)) ≡ true
-      → quantityOf (DoubleUnit x m) ≡ fine (quantityAt (m .unit) (record { value = x; display = m .display }))
-  unfolding quantityOf measured
+      → readOf (DoubleUnit x m) ≡ fine (quantityAt (m .unit) (record { value = x; display = m .display }))
+  unfolding readOf measured
   mark-taken e = rw e
 
 -- what is combined, as far as each scalar is a quantity
 module _ (rule : Quantity → Quantity → Answer Quantity) (a b : Scalar) where
-  pub first-refused : (k p : ℕ) → quantityOf a ≡ refused k p → combinedOf rule a b ≡ refused k p
+  pub first-refused : (k p : ℕ) → readOf a ≡ refused k p → combinedOf rule a b ≡ refused k p
   unfolding combinedOf
   first-refused k p e = rw e
 
-  module _ (x : Answer Quantity) (is : quantityOf a ≡ fine x) where
-    pub second-refused : (k p : ℕ) → quantityOf b ≡ refused k p → combinedOf rule a b ≡ refused k p
+  module _ (x : Answer Quantity) (is : readOf a ≡ fine x) where
+    pub second-refused : (k p : ℕ) → readOf b ≡ refused k p → combinedOf rule a b ≡ refused k p
     unfolding combinedOf
     second-refused k p e = rw (is, e)
 
-    pub both-known : (y : Answer Quantity) → quantityOf b ≡ fine y → combinedOf rule a b ≡ combined rule x y
+    pub both-known : (y : Answer Quantity) → readOf b ≡ fine y → combinedOf rule a b ≡ combined rule x y
     unfolding combinedOf
     both-known y e = rw (is, e)
 
@@ -72,13 +72,13 @@ implied false false h = refl
 -- by a rule whose operation is strict the answer is what was combined, tested alone
 module _ (rule : Quantity → Quantity → Answer Quantity) (op : Float → Float → Float) (is : IsRule op rule) (strict : Strict op) where
   tested-once : (x y : Quantity) (o : Answer Quantity) → rule x y ≡ o
-      → resulting o ≡ (o >>= λ r. guard (isFinite x && isFinite y && isFinite r) 25 0 >> fine (scalarOf r))
+      → resulting o ≡ (o >>= λ r. guard (isFinite x && isFinite y && isFinite r) 25 0 >> fine (asScalar r))
   unfolding resulting
   tested-once x y (refused k p) e = refl
   tested-once x y (fine r) e = rw (implied (isFinite x && isFinite y) (isFinite r) (rule-strict op strict x y r (is x y) e))
 
   one-test : (m n : Answer Quantity) → resulting (combined rule m n)
-      ≡ (m >>= λ x. n >>= λ y. rule x y >>= λ r. guard (isFinite x && isFinite y && isFinite r) 25 0 >> fine (scalarOf r))
+      ≡ (m >>= λ x. n >>= λ y. rule x y >>= λ r. guard (isFinite x && isFinite y && isFinite r) 25 0 >> fine (asScalar r))
   unfolding resulting
   one-test (refused k p) n = refl
   one-test (fine x) (refused k p) = refl
@@ -94,7 +94,7 @@ module _ (rule : Quantity → Quantity → Answer Quantity) (op : Float → Floa
   both-read (fine u) (fine v) = one-test (quantityAt (u .unit) (u .number)) (quantityAt (v .unit) (v .number))
 
   pub answered : (a b : Scalar) (o : Answer Quantity) → o ≡ combinedOf rule a b → resulting o ≡ answer rule a b
-  unfolding answer combinedOf quantityOf
+  unfolding answer combinedOf readOf
   answered a b o e = ap resulting e ∙ both-read (measured a) (measured b)
 
 -- a number as a scalar, where it is finite and where it is not

@@ -33,8 +33,8 @@ measured (DoubleUnit x m) = do
 measured (NotNumber c) = refused 17 0
 
 -- The scalar that a quantity is; its mark has no currency.
-abbrev pub scalarOf : Quantity → Scalar
-scalarOf q = DoubleUnit (numberOf q .value) (record { unit = unitOf q; currency = 0; display = numberOf q .display })
+abbrev pub asScalar : Quantity → Scalar
+asScalar q = DoubleUnit (numberOf q .value) (record { unit = unitOf q; currency = 0; display = numberOf q .display })
 
 -- Neither infinite nor a NaN.
 unfoldable pub finite : Float → Bool
@@ -53,7 +53,7 @@ answerOf rule m n = do
   y ← quantityAt (n .unit) (n .number)
   r ← rule x y
   guard (isFinite x && isFinite y && isFinite r) 25 0
-  fine (scalarOf r)
+  fine (asScalar r)
 
 -- And for two scalars: 17 for each, before all else.
 unfoldable pub answer : (Quantity → Quantity → Answer Quantity) → Scalar → Scalar → Answer Scalar

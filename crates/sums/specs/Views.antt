@@ -7,7 +7,7 @@ use Rattle.kinds.specs.declared.Scalar.the-variants.{DoubleUnit}
 use Rattle.sums_quantities.specs.declared.shown.Shown.{Shown}
 use Rattle.sums_pairs.specs.Pairs.{Quantity, quantityAt}
 use Rattle.sums_pairs.specs.Views.{seen, combined}
-use Rattle.sums.specs.Sums.{measured, finite, isFinite, scalarOf}
+use Rattle.sums.specs.Sums.{measured, finite, isFinite, asScalar}
 use Rattle.sums.specs.declared.Known.{Known}
 use Rattle.sums.specs.declared.Known.the-variants.{Is, None}
 use Rattle.sums.specs.declared.Both.{Both}
@@ -18,8 +18,8 @@ abbrev pub knownAs : Known → Answer (Answer Quantity)
 knownAs (Is q) = fine (seen q)
 knownAs None = refused 17 0
 
-unfoldable pub quantityOf : Scalar → Answer (Answer Quantity)
-quantityOf a = do
+unfoldable pub readOf : Scalar → Answer (Answer Quantity)
+readOf a = do
   m ← measured a
   fine (quantityAt (m .unit) (m .number))
 
@@ -31,8 +31,8 @@ module _ (rule : Quantity → Quantity → Answer Quantity) where
 
   unfoldable pub combinedOf : Scalar → Scalar → Answer Quantity
   combinedOf a b = do
-    x ← quantityOf a
-    y ← quantityOf b
+    x ← readOf a
+    y ← readOf b
     combined rule x y
 
 -- These are what the two scalars were read as, whatever the rule.
@@ -49,4 +49,4 @@ unfoldable pub resulting : Answer Quantity → Answer Scalar
 resulting a = do
   r ← a
   guard (isFinite r) 25 0
-  fine (scalarOf r)
+  fine (asScalar r)

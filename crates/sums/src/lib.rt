@@ -5,7 +5,7 @@ ghost use Rattle.sim0mq.specs.Answer.{refused};
 ghost use Rattle.scalars.specs.Scalars.{valued};
 ghost use Rattle.sums_pairs.specs.Views.{seen};
 ghost use Rattle.sums.specs.Sums.{finite as finiteOf, sumOf, differenceOf};
-ghost use Rattle.sums.specs.Views.{knownAs, quantityOf, AreRead, told as toldOf, resulting};
+ghost use Rattle.sums.specs.Views.{knownAs, readOf, AreRead, told as toldOf, resulting};
 use encoding::mark_taken;
 use kinds::Mark;
 use kinds::Scalar;
@@ -31,7 +31,7 @@ enum Both {
 
 // The quantity that a scalar is; none where it is no double with a mark that reading gives.
 fn read(a: Scalar) -> Known
-    ensures { λ r. ⌜ knownAs r ≡ quantityOf a ⌝ }
+    ensures { λ r. ⌜ knownAs r ≡ readOf a ⌝ }
 {
     match a {
         Scalar::DoubleUnit(value, mark) => {
