@@ -1,0 +1,5 @@
+pub mod Book
+pub mod Taking
+pub mod Promises
+pub mod History
+pub mod Examples
