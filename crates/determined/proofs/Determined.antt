@@ -101,6 +101,12 @@ use Rattle.recordings_writing.proofs.Recorder.add.Reads as recorder-add
 use Rattle.recordings_writing.proofs.Recorder.close.Reads as recorder-close
 use Rattle.recordings_salvaging.proofs.salvage.Reads as salvage
 use Rattle.commands.proofs.command.Reads as command
+use Rattle.senders_lookup.proofs.place_of.Reads as place-of
+use Rattle.senders_lookup.proofs.free_place.Reads as free-place
+use Rattle.senders.proofs.empty.Reads as book-empty
+use Rattle.senders.proofs.take_framed.Reads as take-framed
+use Rattle.senders.proofs.take.Reads as book-take
+use Rattle.senders.proofs.close.Reads as book-close
 use Rattle.puts.proofs.bits.Reads as bits
 use Rattle.puts.proofs.put_big.Reads as put-big
 use Rattle.puts.proofs.put_number.Reads as put-number
@@ -506,6 +512,24 @@ salvage-out = equated salvage.Post (λ κs z e. now (e .1 .0)) _ (λ κs a z e p
 -- The call of crate commands.
 pub command-result : Determines command.Post (λ κs z e. z)
 command-result = determined command.Post (λ κs z e. z) (λ κs. told) (λ κs. command-apart) _ (λ κs a z e p. p)
+-- The calls of the book of senders.
+pub place-of-result : Determines place-of.Post (λ κs z e. z)
+place-of-result = equated place-of.Post (λ κs z e. z) _ (λ κs a z e p. p)
+
+pub free-place-result : Determines free-place.Post (λ κs z e. z)
+free-place-result = equated free-place.Post (λ κs z e. z) _ (λ κs a z e p. p)
+
+pub book-empty-result : Determines book-empty.Post (λ κs z e. z)
+book-empty-result = equated book-empty.Post (λ κs z e. z) _ (λ κs a z e p. p)
+
+pub take-framed-result : Determines take-framed.Post (λ κs z e. z)
+take-framed-result = equated take-framed.Post (λ κs z e. z) _ (λ κs a z e p. p)
+
+pub book-take-result : Determines book-take.Post (λ κs z e. z)
+book-take-result = equated book-take.Post (λ κs z e. z) _ (λ κs a z e p. p)
+
+pub book-close-result : Determines book-close.Post (λ κs z e. z)
+book-close-result = equated book-close.Post (λ κs z e. z) _ (λ κs a z e p. p)
 
 -- The calls of crate puts.
 pub bits-result : Determines bits.Post (λ κs z e. z)

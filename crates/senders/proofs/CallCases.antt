@@ -1,5 +1,5 @@
--- How the book's calls answer, case by case: an id is made of the bytes put at the front of zeros, numbers come back from
--- their bits, and reading's answer tells what taking goes on with.
+-- How the book's calls answer, case by case: an id is made of the bytes put at the front of zeros, numbers come back
+-- from their bits, and reading's answer tells what taking goes on with.
 use Prim.Native.Nat.{ℕ, zero, suc}
 use mathlib.Core.Path.{_≡_, refl, sym, ap, _∙_}
 use mathlib.Core.Bool.{Bool, true}

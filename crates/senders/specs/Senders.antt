@@ -13,7 +13,8 @@ emptied = record { senders = emptyBook }
 
 -- What taking hands back: the sender's place, or the refusal; and the book after it.
 abbrev pub afterTaking : Book → Answer Entry → Taken
-afterTaking b (fine e) = record { said = Accepted (e .place); book = record { senders = bookAfter (b .senders) (fine e) } }
+afterTaking b (fine e) =
+    record { said = Accepted (e .place); book = record { senders = bookAfter (b .senders) (fine e) } }
 afterTaking b (refused k p) = record { said = Refused (record { number = k; place = p }); book = b }
 
 -- What closing hands back: whether the sender was held, and the book after it.

@@ -104,7 +104,8 @@ pub examples-hold :
     ≡ (fine 0 ∷ fine 0 ∷ fine 0 ∷ fine 0 ∷ fine 0 ∷ refused 26 24 ∷ refused 6 64 ∷ [])
     ∷ (refused 27 54 ∷ fine 0 ∷ refused 27 54 ∷ fine 1 ∷ fine 1 ∷ refused 26 24 ∷ refused 6 64 ∷ [])
     ∷ (fine 0 ∷ fine 0 ∷ fine 0 ∷ fine 0 ∷ fine 0 ∷ refused 26 24 ∷ refused 6 64 ∷ [])
-    ∷ (refused 28 24 ∷ refused 28 24 ∷ refused 28 24 ∷ refused 28 24 ∷ refused 28 24 ∷ refused 26 24 ∷ refused 6 64 ∷ [])
+    ∷ (refused 28 24 ∷ refused 28 24 ∷ refused 28 24 ∷ refused 28 24 ∷ refused 28 24 ∷ refused 26 24 ∷ refused 6 64
+    ∷ [])
     ∷ (fine 7 ∷ fine 7 ∷ fine 7 ∷ fine 7 ∷ fine 7 ∷ refused 26 24 ∷ refused 6 64 ∷ [])
     ∷ []
 unfolding
@@ -112,6 +113,6 @@ unfolding
     framePlace stampAt stamping takingFramed taking placed numberAt twos
     reading message messageRest enough limit
     header declared status frame magic digit literal among statusTaken fieldsTaken payload payloadFrom moved steps
-    field outline after booleans booleansOf head headRest counts count markCount marks codeKnown countsOf markingOf widthOf
-    boolean big notNegative
+    field outline after booleans booleansOf head headRest counts count markCount marks codeKnown countsOf markingOf
+    widthOf boolean big notNegative
 examples-hold = refl

@@ -50,7 +50,8 @@ Accepted-is-stamped =
 -- A message is read once: by the frames that reading found, taking is the same.
 abbrev pub Frames-are-enough : Type 0
 Frames-are-enough =
-    (b : List Sender) (s : List ℕ) (m : Reading) → reading noTable s ≡ fine m → takingFramed b s (m .frames) ≡ taking b s
+    (b : List Sender) (s : List ℕ) (m : Reading) → reading noTable s ≡ fine m
+    → takingFramed b s (m .frames) ≡ taking b s
 
 -- Reading's refusals come first.
 abbrev pub Reading-comes-first : Type 0

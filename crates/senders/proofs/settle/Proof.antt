@@ -1,5 +1,5 @@
--- senders::settle: the sender's own place where it is held and its number is smaller, else the first free one; an array has
--- as many places as the book.
+-- senders::settle: the sender's own place where it is held and its number is smaller, else the first free one; the
+-- array has as many places as the book.
 use Prim.Native.Nat.{_≤_, _<_}
 use mathlib.Core.Path.{_∙_}
 use mathlib.Core.Bool.{true, false}

@@ -1,4 +1,5 @@
--- senders::take_framed: both frames are outlined where they are said to stand, and what is outlined lies in the message.
+-- senders::take_framed: both frames are outlined where they are said to stand, and what is outlined lies in the
+-- message.
 use Prim.Native.Nat.{ℕ, _+_, _-_}
 use mathlib.Core.Path.{_≡_, ap, sym, _∙_}
 use native.Mathlib.Omega.{arith}

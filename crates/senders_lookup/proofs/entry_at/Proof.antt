@@ -1,6 +1,6 @@
--- `senders_lookup::entry_at` meets its contract: a walk of its MIR, by hand. The place of `list[i]` is computed, the slice is looked into, element i is taken out
--- of the row, read whole, and put back. A Sender is Copy: what it owns is had twice, once for the row and once for the result.
--- Assumes nothing.
+-- senders_lookup::entry_at meets its contract, by a walk of its MIR by hand: the place of `list[i]` is computed, the
+-- slice is looked into, element i is taken out of the row, read whole, and put back. A Sender is Copy: what it owns is
+-- had twice, once for the row and once for the result.
 use mathlib.Core.Path.{refl, sym}
 use Prim.Native.Nat.{ℕ, _<_, _^_}
 use mathlib.Core.List.{List, [], _∷_}
@@ -91,11 +91,11 @@ module _ {M : Type 1} (𝓤 : URA M) (H : Heap 𝓤) (A : Atoms 𝓤) (W : Given
         move ! (13 ∷ []) $ fsplit ! $ fsplit ! $ move ! (1 ∷ []) $ fsplit ! $ move ! (16 ∷ []) $ split ! $ move ! (3 ∷ 0 ∷ []) $
         looks-slice ! tt R (Is R) (shows 𝓤 H A R) (LL.vals T.the-type T′.the-laws) (LL.tells T.the-type T′.the-laws) (LL.copy T.the-type T′.the-copy 𝓤 H A W) ys b o (λ q′.
         elem-out ! R (Is R) (shows 𝓤 H A R) (LL.vals T.the-type T′.the-laws) (LL.tells T.the-type T′.the-laws) q′ ys i nowhere b o l (λ g.
-        -- [list[i]; what it owns; the others; what shuts; the fractured borrow; true; res; the slice's fact; i's; _5; …; _4; …; _3; …; _2; …; _1; …; _0; …]
+        -- [list[i]; what it owns; the others; what shuts; the fractured borrow; true; res; the slice's fact; …]
         assigns ! (of-opd ! (load ! (from ! (hop ! (look ! 11 refl) (stop !))) (look-raw ! 0 refl))) (from ! (stop !)) (init ! 9 refl (LL.lawful T.the-type T′.the-laws 𝓤 H A W .typed elem (mach ∷ []) g .0)) $
         assigns ! (of-opd ! (load ! (from ! (stop !)) (look ! 9 refl))) (from ! (stop !)) (init ! 19 refl (LL.lawful T.the-type T′.the-laws 𝓤 H A W .typed elem (mach ∷ []) g .0)) $
         move ! (1 ∷ []) $ use1 W (‵ Own ⊛ ‵ Own) (LL.copy T.the-type T′.the-copy 𝓤 H A W .twice elem (mach ∷ [])) $ split ! $ move ! (2 ∷ 0 ∷ 3 ∷ 4 ∷ 5 ∷ []) $
-        -- [list[i]; what it owns; the others; what shuts; the fractured borrow; what the result owns; true; res; the slice's fact; i's; _5; …]
+        -- [list[i]; what it owns; the others; what shuts; the fractured borrow; what the result owns; true; res; …]
         elem-back ! R q′ ys i nowhere (mach ∷ []) b o l $ shuts-slice ! tt R q′ ys b o $
         returns ! (look ! 17 refl) $ forget ! 7 refl $ forget ! 9 refl $ forget ! 11 refl $ forget ! 13 refl $ forget ! 15 refl $ forget ! 17 refl $
         move ! (17 ∷ 18 ∷ []) $ free1 ! $ move ! (15 ∷ 16 ∷ []) $ free1 ! $ move ! (13 ∷ 14 ∷ []) $ free1 ! $ move ! (11 ∷ 12 ∷ []) $ free1 ! $ move ! (9 ∷ 10 ∷ []) $ free1 ! $ move ! (7 ∷ 8 ∷ []) $ free1 ! $ free0 ! $

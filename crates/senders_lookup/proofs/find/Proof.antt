@@ -1,5 +1,5 @@
--- `senders_lookup::find` meets its contract: a walk of its MIR, by hand, with a loop. Each turn calls `other_at`. The invariant: the place is i and the place in what is left.
--- Assumes nothing.
+-- senders_lookup::find meets its contract, by a walk of its MIR by hand, with a loop: each turn calls `other_at`, and
+-- the place sought is i and the place in what is left from i on.
 use mathlib.Core.Path.{_≡_, refl, sym, ap, _∙_}
 use mathlib.Core.Bool.{Bool, true, false}
 use Prim.Native.Nat.{ℕ, suc, _+_, _-_, _<_, _≤_, _^_}

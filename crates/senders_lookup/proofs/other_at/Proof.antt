@@ -1,6 +1,6 @@
--- `senders_lookup::other_at` meets its contract: a walk of its MIR, by hand. `entry` is called on the slice and the number, and `other` on what it returns.
--- The slice reference is Copy: what it owns is had twice, one copy goes to the callee, and one is kept for the exit.
--- Assumes nothing.
+-- senders_lookup::other_at meets its contract, by a walk of its MIR by hand: `entry_at` is called on the slice and the
+-- number, and `other` on what it returns. The slice reference is Copy: what it owns is had twice, one copy goes to the
+-- callee, and one is kept for the exit.
 use mathlib.Core.Path.{_≡_, refl, ap, _∙_}
 use mathlib.Core.Bool.{Bool}
 use Prim.Native.Nat.{ℕ, _<_, _^_}

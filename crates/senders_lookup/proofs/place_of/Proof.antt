@@ -1,5 +1,5 @@
--- `senders_lookup::place_of` meets its contract: a walk of its MIR, by hand. The array is stored in a slot of memory, lent as a slice for a lifetime that the walk makes, `find` is called, and the slot comes back.
--- Assumes nothing.
+-- senders_lookup::place_of meets its contract, by a walk of its MIR by hand: the array is stored in a slot of memory
+-- and lent as a slice for a lifetime that the walk makes, `find` is called, and the slot comes back.
 use mathlib.Core.Path.{_≡_, refl, sym}
 use Prim.Native.Nat.{ℕ, _<_}
 use mathlib.Core.List.{List, [], _∷_}
@@ -43,7 +43,7 @@ use denote.Triple.Spec.{Meets, tripleOf}
 use denote.Triple.Table.{entered, cited}
 use denote.Triple.Walked.{says, Stays, stay-none, walkOf, Walks, ends-at, walked, goes-none, walk-meets}
 use denote.Exit.{yes}
-use Rattle.senders_book.specs.Book.{placeOf}
+use Rattle.senders_book.specs.Book.{bookPlaces, placeOf}
 use Rattle.senders_book.specs.declared.Sender.{Sender}
 use Rattle.senders_book.specs.declared.Id.{Id}
 use Rattle.senders_book.proofs.Id as I
@@ -66,13 +66,13 @@ abbrev K : RattleType
 K = I.the-row
 
 abbrev P : RattleType
-P = Array R 32
+P = Array R bookPlaces
 
 abbrev vals : Sender → List Val
 vals = LL.vals T.the-type T′.the-laws
 
 abbrev arr : Ty
-arr = tyArray (lone (R .mir)) 32
+arr = tyArray (lone (R .mir)) bookPlaces
 
 abbrev sndr : Ty
 sndr = lone (K .mir)
@@ -132,7 +132,7 @@ module _ {M : Type 1} (𝓤 : URA M) (H : Heap 𝓤) (A : Atoms 𝓤) (W : Given
   unfolding partOf
   out l =
       qed W (‵ (partAt P fullShare xs l 0) ∷ []) ∵ fpick ! (λ vs. fsplit ! $ move ! (1 ∷ []) $ peeks ! P (Is P) (shows 𝓤 H A P) xs vs (λ p. drop ! $
-      rewrite ! 0 (λ (us : List Val). ‵ (cellAt fullShare (P .mir) us l 0)) (array-tells R vals (LL.tells T.the-type T′.the-laws) 32 xs vs p) refl $
+      rewrite ! 0 (λ (us : List Val). ‵ (cellAt fullShare (P .mir) us l 0)) (array-tells R vals (LL.tells T.the-type T′.the-laws) bookPlaces xs vs p) refl $
       use1 W (‵ (fat fullShare arr l 0 mach)) (W .laws .raw-at fullShare arr l 0 mach) $ use1 W (‵ (froom arr l 0)) (W .laws .at-room arr l 0 mach) $ done !))
 
   abbrev x : ℕ → GName → RefT (List Sender)
@@ -153,7 +153,7 @@ module _ {M : Type 1} (𝓤 : URA M) (H : Heap 𝓤) (A : Atoms 𝓤) (W : Given
   said α l γ r = exE 𝓤 _ (λ ws. snd∗ 𝓤 (sem 𝓤 H A (lasts find.ended (α ∷ [], tt) (x l γ, (k, tt)) ws)) (fact 𝓤 (r ≡ placeOf xs k)))
 
   module _ (C : Calls 𝓤 H) (Λ : Loops 𝓤 H) (fm : FmC 𝓤 H (W .laws) C) (known : Triple 𝓤 (C #lookup·find) (Find 𝓤 H A mem run)) where
-    walk : Holds (hasTy arr mach) × WT mach → length xs ≡ 32 → Room R (length xs) → IsKey → ent 𝓤 (onEntry 𝓤 H A this.signature tt tt a at) (WpFn 𝓤 H C Λ code.function (mach ∷ km ∷ []) Post)
+    walk : Holds (hasTy arr mach) × WT mach → length xs ≡ bookPlaces → Room R (length xs) → IsKey → ent 𝓤 (onEntry 𝓤 H A this.signature tt tt a at) (WpFn 𝓤 H C Λ code.function (mach ∷ km ∷ []) Post)
     walk wt len room gk =
         qed W (‵ ftrue ∷ ‵ (owns (P ∷ K ∷ []) a at) ∷ []) ∵ enter ! C Λ code.function (mach ∷ km ∷ []) _ $
         alloc1 ! (λ l₀. alloc1 ! (λ l₁. alloc1 ! (λ l₂. alloc1 ! (λ l₃. alloc1 ! (λ l₄. alloc1 ! (λ l₅. alloc0 ! $ params1 ! $
@@ -161,13 +161,13 @@ module _ {M : Type 1} (𝓤 : URA M) (H : Heap 𝓤) (A : Atoms 𝓤) (W : Given
         assigns ! (of-opd ! (load ! (from ! (stop !)) (look ! 8 refl))) (from ! (stop !)) (init ! 4 refl wt) $
         assigns ! (addr ! (from ! (stop !))) (from ! (stop !)) (init ! 2 refl (tt, tt)) $
         assigns ! (agg ! (and-then ! (load ! (from ! (stop !)) (look ! 2 refl)) (and-then ! (lit ! tt) (no-more !)))) (from ! (stop !)) (init ! 0 refl (tt, (tt, (record { fits = lit< tt }, tt)))) $
-        move ! (13 ∷ []) $ fsplit ! $ use1 W (‵ Own ⊛ ‵ Own) (array-copy 𝓤 H A W R (LL.copy T.the-type T′.the-copy 𝓤 H A W) 32 .twice xs (mach ∷ [])) $ split ! $
+        move ! (13 ∷ []) $ fsplit ! $ use1 W (‵ Own ⊛ ‵ Own) (array-copy 𝓤 H A W R (LL.copy T.the-type T′.the-copy 𝓤 H A W) bookPlaces .twice xs (mach ∷ [])) $ split ! $
         -- [the array's; the array's; the rest's; _5; …; _4; …; _3; …; _2; …; _1; …; _0; …; true]
-        move ! (7 ∷ 0 ∷ []) $ use2 W (‵ (partAt P fullShare xs l₃ 0)) (into l₃) $ use1 W (‵ (arr-parts (shares R) 32 .part fullShare xs l₃ 0)) (array-apart 𝓤 H A W R fullShare tt 32 xs l₃ 0) $
+        move ! (7 ∷ 0 ∷ []) $ use2 W (‵ (partAt P fullShare xs l₃ 0)) (into l₃) $ use1 W (‵ (arr-parts (shares R) bookPlaces .part fullShare xs l₃ 0)) (array-apart 𝓤 H A W R fullShare tt bookPlaces xs l₃ 0) $
         rewrite ! 0 (λ (m : ℕ). ‵ (arr-parts (shares R) m .part fullShare xs l₃ 0)) (sym len) refl $
         lft-new ! tt (λ α. move ! (1 ∷ []) $
         use1 W (later (some (λ (γ : GName). ‵ (ShrSlice (named 0) (α ∷ []) R .own (x l₃ γ) (s l₃ ∷ [])) ⊛ ‵ (flent (α ∷ []) (arr-parts (shares R) (length xs) .part fullShare xs l₃ 0))))) (lends-shr-slice 𝓤 H A W R (named 0) (α ∷ []) fullShare xs l₃ 0 room) $ await ! tt $ pick ! (λ γ. split ! $
-        -- [the slice's; the lender's; the token; the array's; the rest's; _5; …; _4; …; _3's end; _2; …; _1; …; _0; …; true]
+        -- [the slice's; the lender's; the token; the array's; the rest's; _5; …; _4; …; _3's end; _2; …; _1; …; …]
         move ! (2 ∷ 0 ∷ []) $ use2 W (raw (Find 𝓤 H A mem run .pre (to-find α l₃ γ))) (goes gk α l₃ γ) $
         rewrite ! 4 (λ (m : ℕ). ‵ (fat fullShare slice l₅ 0 (sliceVal (l₃, 0) m))) (sym len) refl $
         calls-at ! fm (Find 𝓤 H A mem run) known (to-find α l₃ γ) (and-then ! (load ! (from ! (stop !)) (look ! 4 refl)) (and-then ! (load ! (from ! (stop !)) (look ! 9 refl)) (no-more !))) (λ u.
@@ -176,18 +176,18 @@ module _ {M : Type 1} (𝓤 : URA M) (H : Heap 𝓤) (A : Atoms 𝓤) (W : Given
         peeks ! usize (Is usize) (shows 𝓤 H A usize) r (u ∷ []) (λ is.
         land ! (from ! (stop !)) (init ! 14 refl (uint-lawful 𝓤 H A W w64 .typed r _ is .0)) $
         move ! (1 ∷ []) $ split ! $ lft-end ! tt $ move ! (0 ∷ 3 ∷ []) $ lent-back ! tt $
-        rewrite ! 0 (λ (m : ℕ). ‵ (arr-parts (shares R) m .part fullShare xs l₃ 0)) len refl $ use1 W (‵ (partAt P fullShare xs l₃ 0)) (array-whole 𝓤 H A W R fullShare 32 xs l₃ 0) $ use1 W (‵ (froom arr l₃ 0)) (out l₃) $
-        -- [room for _3; true; the result's; the array's; the rest's; _5; …; _4; …; _3's end; _2; …; _1; …; _0; …; true]
+        rewrite ! 0 (λ (m : ℕ). ‵ (arr-parts (shares R) m .part fullShare xs l₃ 0)) len refl $ use1 W (‵ (partAt P fullShare xs l₃ 0)) (array-whole 𝓤 H A W R fullShare bookPlaces xs l₃ 0) $ use1 W (‵ (froom arr l₃ 0)) (out l₃) $
+        -- [room for _3; true; the result's; the array's; the rest's; _5; …; _4; …; _3's end; _2; …; _1; …; …]
         returns ! (look ! 14 refl) $ forget ! 5 refl $ forget ! 7 refl $ forget ! 10 refl $ forget ! 12 refl $ forget ! 14 refl $
         move ! (14 ∷ 15 ∷ []) $ free1 ! $ move ! (12 ∷ 13 ∷ []) $ free1 ! $ move ! (10 ∷ 11 ∷ []) $ free1 ! $ move ! (0 ∷ 9 ∷ []) $ free1 ! $ move ! (6 ∷ 7 ∷ []) $ free1 ! $ move ! (4 ∷ 5 ∷ []) $ free1 ! $ free0 ! $
         keep ! (1 ∷ 2 ∷ 3 ∷ []) $ by ! (exits r u e)))))))))))))
 
 module _ {M : Type 1} (𝓤 : URA M) (H : Heap 𝓤) (A : Atoms 𝓤) (W : Given 𝓤 H A) (mem : Memory → SProp 𝓤) (run : Routine → Fun 𝓤) where
   walks : (C : Calls 𝓤 H) (Λ : Loops 𝓤 H) → FmC 𝓤 H (W .laws) C → Triple 𝓤 (C #lookup·find) (Find 𝓤 H A mem run) → Walks 𝓤 H A this.ended stayed (WpFn 𝓤 H C Λ code.function) (this.clauses 𝓤 H A mem run)
-  walks C Λ fm known = walked 𝓤 H A this.ended stayed (this.clauses 𝓤 H A mem run) (WpFn 𝓤 H C Λ code.function) (λ κs. (array-vals vals, (LL.vals I.the-type I′.the-laws, tt))) (λ κs. (array-tells R vals (LL.tells T.the-type T′.the-laws) 32, (LL.tells I.the-type I′.the-laws, tt)))
+  walks C Λ fm known = walked 𝓤 H A this.ended stayed (this.clauses 𝓤 H A mem run) (WpFn 𝓤 H C Λ code.function) (λ κs. (array-vals vals, (LL.vals I.the-type I′.the-laws, tt))) (λ κs. (array-tells R vals (LL.tells T.the-type T′.the-laws) bookPlaces, (LL.tells I.the-type I′.the-laws, tt)))
       (λ κs qs bounds a g are. via 𝓤 _ (fst∗ 𝓤 _ (emp 𝓤)) (
-      let len : length (a .0) ≡ 32 = are .0 .1 .0 .1 in
-      walk 𝓤 H A W mem run (a .0) (a .1 .0) C Λ fm known (array-typed R (LL.lawful T.the-type T′.the-laws 𝓤 H A W .typed) 32 (a .0) _ (are .0) .0) len (rw len (lit< tt, lit< tt)) (are .1 .0)))
+      let len : length (a .0) ≡ bookPlaces = are .0 .1 .0 .1 in
+      walk 𝓤 H A W mem run (a .0) (a .1 .0) C Λ fm known (array-typed R (LL.lawful T.the-type T′.the-laws 𝓤 H A W .typed) bookPlaces (a .0) _ (are .0) .0) len (rw len (lit< tt, lit< tt)) (are .1 .0)))
 
 meets : {M : Type 1} (𝓤 : URA M) (H : Heap 𝓤) (A : Atoms 𝓤) (W : Given 𝓤 H A) (mem : Memory → SProp 𝓤) (run : Routine → Fun 𝓤) (𝓣 : Tables 𝓤 H)
     → Triple 𝓤 (𝓣 .C #lookup·find) (Find 𝓤 H A mem run)
