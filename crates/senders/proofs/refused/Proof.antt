@@ -1,0 +1,10 @@
+-- senders::refused: the book goes back as it came.
+use borrow.Author.Needs.{needs}
+use Rattle.senders.proofs.refused.Statement.{statement}
+use Rattle.senders.proofs.refused.Tie as tie
+
+returns : tie.Need-returns
+returns c = search needs
+
+pub refused-spec : {M : Type 1} → statement M
+refused-spec = tie.close (tie.spec returns)
