@@ -9,7 +9,7 @@
  * Answers are numbers in `answer`, which the caller lends. A call returns
  *
  *     0          granted
- *     1 to 25    refused; the number is one of the table below
+ *     1 to 28    refused; the number is one of the table below
  *     255        `answer` is too short for the call's numbers (SIM0MQ_..._NUMBERS); nothing at all is written
  *
  * answer[0] is the returned number, and answer[1] the place of the fault, 0 where the call is granted. On a refusal the call's other numbers are 0
@@ -41,6 +41,9 @@
  *     23   command: an empty string, or a word that is not of its set  the field's code byte
  *     24   sums: two quantities that cannot be combined                0
  *     25   sums: an operand or a result infinite or a NaN              0
+ *     26   book of senders: an id of more than 32 value bytes          the sender frame
+ *     27   book of senders: a number not greater than the one held     the number frame
+ *     28   book of senders: a new sender, and no place free            the sender frame
  */
 #ifndef SIM0MQ_H
 #define SIM0MQ_H

@@ -3,7 +3,7 @@
 use std::error::Error;
 use std::fmt;
 
-/// Why a call was refused, as one of the twenty-five numbers, 1 to 25.
+/// Why a call was refused, as one of the twenty-eight numbers, 1 to 28.
 #[derive(Clone, Copy, Debug, PartialEq, Eq, PartialOrd, Ord, Hash)]
 #[repr(u8)]
 pub enum RefusalKind {
@@ -61,11 +61,19 @@ pub enum RefusalKind {
     NotCombined = 24,
     /// 25: an operand of a sum or a difference, or its result, is infinite or a NaN. The place is 0.
     NotFinite = 25,
+    /// 26: a sender's id has more than 32 value bytes. The place is the sender frame.
+    LongSender = 26,
+    /// 27: a message's number is not greater than the last taken from its sender. The place is the
+    /// number frame.
+    NumberNotGreater = 27,
+    /// 28: the sender is new, and the book of senders has no place free. The place is the sender
+    /// frame.
+    BookFull = 28,
 }
 
 impl RefusalKind {
-    /// All twenty-five, in the order of their numbers.
-    pub const ALL: [RefusalKind; 25] = [
+    /// All twenty-eight, in the order of their numbers.
+    pub const ALL: [RefusalKind; 28] = [
         RefusalKind::EndsEarly,
         RefusalKind::WrongStart,
         RefusalKind::WrongEdition,
@@ -91,15 +99,18 @@ impl RefusalKind {
         RefusalKind::CommandText,
         RefusalKind::NotCombined,
         RefusalKind::NotFinite,
+        RefusalKind::LongSender,
+        RefusalKind::NumberNotGreater,
+        RefusalKind::BookFull,
     ];
 
-    /// The kind with this number, or `None` where the number is not 1 to 25.
+    /// The kind with this number, or `None` where the number is not 1 to 28.
     #[must_use]
     pub fn of(number: u8) -> Option<RefusalKind> {
         RefusalKind::ALL.into_iter().find(|kind| kind.number() == number)
     }
 
-    /// Its number, 1 to 25.
+    /// Its number, 1 to 28.
     #[must_use]
     pub const fn number(self) -> u8 {
         self as u8
@@ -134,6 +145,9 @@ impl RefusalKind {
             RefusalKind::CommandText => "string empty or not of its set of words",
             RefusalKind::NotCombined => "quantities that cannot be combined",
             RefusalKind::NotFinite => "infinite or not a number in a sum",
+            RefusalKind::LongSender => "sender id above 32 bytes",
+            RefusalKind::NumberNotGreater => "message number not greater",
+            RefusalKind::BookFull => "no place free for a new sender",
         }
     }
 }
@@ -172,7 +186,7 @@ impl Refusal {
         Refusal { kind, place }
     }
 
-    /// Its number, 1 to 25.
+    /// Its number, 1 to 28.
     #[must_use]
     pub const fn number(self) -> u8 {
         self.kind.number()

@@ -52,7 +52,9 @@ use Rattle.senders_book.proofs.PlaceLaws.{
   set-entry,
 }
 use Rattle.senders_book.proofs.TakeCases.{settling-held, settling-new, stamp-long, stamp-stops, stamp-goes}
-use Rattle.senders_book.proofs.StampLaws.{accepted-is-stamped}
+pub use Rattle.senders_book.proofs.StampLaws.{accepted-is-stamped, frames-are-enough, reading-comes-first}
+pub use Rattle.senders_book.proofs.IdLaws.{same-exactly}
+pub use Rattle.senders_book.proofs.PlaceLaws.{place-is-the-first, free-is-the-first}
 
 -- a refusal's number and place
 numberIn : {A : Type 0} → Answer A → ℕ
