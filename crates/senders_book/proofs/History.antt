@@ -47,10 +47,10 @@ use Rattle.senders_book.specs.History.{
   sameSender,
   numbersOf,
   Smaller,
-  empty,
-  below,
+  Rising,
   Each-sender-once,
   Held-where-taken,
+  Numbers-rise,
   Number-is-the-last,
   keeps,
   No-message-twice,
@@ -88,8 +88,9 @@ less-trans (negsuc a) (negsuc b) (pos c) h k = refl
 less-trans (negsuc a) (negsuc b) (negsuc c) h k = lt-ltb c a (omega (arith, ltb-true b a h, ltb-true c b k))
 
 smaller-on : (m n : ℤ) (ms : List ℤ) → ltZ m n ≡ true → Smaller m ms → Smaller n ms
-smaller-on m n [] h empty = empty
-smaller-on m n (k ∷ ms) h (below l s) = below (less-trans k m n l h) (smaller-on m n ms h s)
+unfolding Smaller
+smaller-on m n [] h s = tt
+smaller-on m n (k ∷ ms) h s = (less-trans k m n (s .0) h, smaller-on m n ms h (s .1))
 
 -- ---- a place and two senders
 -- a place that holds two senders holds one
@@ -110,7 +111,7 @@ record With (b : List Sender) (id : Id) (n : ℤ) : Type 0 where
 -- what the book says of a sender from which these numbers were taken, the latest first
 Tells : List Sender → Id → List ℤ → Type 0
 Tells b id [] = (j : ℕ) → holds (entryIn b j) id ≡ true → ⊥
-Tells b id (n ∷ ns) = With b id n × Smaller n ns
+Tells b id (n ∷ ns) = With b id n × Rising (n ∷ ns)
 
 record Known (p : Point) : Type 0 where
   once : Once (p .book)
@@ -193,8 +194,8 @@ module _ (b : List Sender) (t : Stamp) (e : Entry) (once : Once b) (w : Takes b 
 
   -- the sender's number is the new one, which is greater than those before
   take-own : (ns : List ℤ) → Tells b own ns → Tells (set b (e .place) entry) own (t .number ∷ ns)
-  unfolding Tells
-  take-own ns tells = (here, go ns tells)
+  unfolding Tells Rising Smaller
+  take-own ns tells = (here, (go ns tells, older ns tells))
     where
       same : entryIn (set b (e .place) entry) (e .place) ≡ entry
       same = set-same b (e .place) entry (settled b t e w .within)
@@ -208,7 +209,7 @@ module _ (b : List Sender) (t : Stamp) (e : Entry) (once : Once b) (w : Takes b 
           }
 
       go : (ns : List ℤ) → Tells b own ns → Smaller (t .number) ns
-      go [] tells = empty
+      go [] tells = tt
       go (n ∷ ns) tells =
           let less : ltZ n (t .number) ≡ true
           = ⊎-elim
@@ -216,7 +217,11 @@ module _ (b : List Sender) (t : Stamp) (e : Entry) (once : Once b) (w : Takes b 
           let first : placeOf b own ≡ tells .0 .at = once own _ _ (place-holds b own (ltb-true _ _ (x .0))) (tells .0 .there) in
           ap (λ (z : ℤ). ltZ z (t .number)) (sym (ap (λ (j : ℕ). entryIn b j .number) first ∙ tells .0 .number)) ∙ x .1)
           (λ x. absurd (not-both (sym (is-held b own (tells .0 .at) (tells .0 .there)) ∙ x .0))) (w .2) in
-          below less (smaller-on n (t .number) ns less (tells .1))
+          (less, smaller-on n (t .number) ns less (tells .1 .0))
+
+      older : (ns : List ℤ) → Tells b own ns → Rising ns
+      older [] tells = tt
+      older (n ∷ ns) tells = tells .1
 
   -- and all other senders are told of as before
   take-other : (c : ℕ) (l : List ℕ) (ns : List ℤ) → sameSender c l (t .code) (t .id) ≡ false → Tells b (idOf c l) ns
@@ -368,14 +373,22 @@ held-where-taken p h c l = (into (numbersOf c l (p .events)) (known h .tells c l
     back [] tells e = refl
     back (n ∷ ns) tells e = absurd (not-both (sym (is-held (p .book) (idOf c l) (tells .0 .at) (tells .0 .there)) ∙ e))
 
+pub numbers-rise : Numbers-rise
+unfolding Tells Rising
+numbers-rise p h c l = go (numbersOf c l (p .events)) (known h .tells c l)
+  where
+    go : (ns : List ℤ) → Tells (p .book) (idOf c l) ns → Rising ns
+    go [] tells = tt
+    go (n ∷ ns) tells = tells .1
+
 pub number-is-the-last : Number-is-the-last
-unfolding Tells
+unfolding Tells Rising
 number-is-the-last p h c l n ns e =
     let tells : Tells (p .book) (idOf c l) (n ∷ ns) = subst (Tells (p .book) (idOf c l)) e (known h .tells c l) in
     let held = is-held (p .book) (idOf c l) (tells .0 .at) (tells .0 .there) in
     let first : placeOf (p .book) (idOf c l) ≡ tells .0 .at
     = known h .once (idOf c l) _ _ (place-holds (p .book) (idOf c l) (ltb-true _ _ held)) (tells .0 .there) in
-    (held, ap (λ (j : ℕ). entryIn (p .book) j .number) first ∙ tells .0 .number, tells .1)
+    (held, ap (λ (j : ℕ). entryIn (p .book) j .number) first ∙ tells .0 .number, tells .1 .0)
 
 -- ---- a number that was taken stays among those taken until its sender is closed
 In : ℤ → List ℤ → Type 0
@@ -383,10 +396,10 @@ In n [] = ⊥
 In n (m ∷ ms) = (n ≡ m) ⊎ In n ms
 
 smaller-in : (n m : ℤ) (ms : List ℤ) → Smaller n ms → In m ms → ltZ m n ≡ true
-unfolding In
+unfolding In Smaller
 smaller-in n m [] s i = absurd i
-smaller-in n m (k ∷ ms) (below l s) (inl e) = ap (λ (z : ℤ). ltZ z n) e ∙ l
-smaller-in n m (k ∷ ms) (below l s) (inr i) = smaller-in n m ms s i
+smaller-in n m (k ∷ ms) s (inl e) = ap (λ (z : ℤ). ltZ z n) e ∙ s .0
+smaller-in n m (k ∷ ms) s (inr i) = smaller-in n m ms (s .1) i
 
 stays-taking : (n : ℤ) (c : ℕ) (l : List ℕ) (a : Answer Entry) (es : List Event) → In n (numbersOf c l es)
     → In n (numbersOf c l (tookBy a es))

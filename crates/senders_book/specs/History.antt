@@ -4,6 +4,7 @@
 use Prim.Native.Nat.{ℕ}
 use mathlib.Core.Path.{_≡_}
 use mathlib.Core.Bool.{Bool, true, false, cond, _&&_}
+use mathlib.Core.Logic.{_↔_}
 use mathlib.Core.List.{List, [], _∷_}
 use lib.ListN.{length}
 use lib.Dec.{eqb}
@@ -64,9 +65,14 @@ numbersOf c l (took d k n ∷ es) = cond (sameSender c l d k) (n ∷ numbersOf c
 numbersOf c l (shut d k ∷ es) = cond (sameSender c l d k) [] (numbersOf c l es)
 
 -- Each of these is smaller than n.
-pub data Smaller (n : ℤ) : List ℤ → Type 0 where
-  empty : Smaller n []
-  below : {m : ℤ} {ms : List ℤ} → ltZ m n ≡ true → Smaller n ms → Smaller n (m ∷ ms)
+unfoldable pub Smaller : ℤ → List ℤ → Type 0
+Smaller n [] = Unit {0}
+Smaller n (m ∷ ms) = (ltZ m n ≡ true) × Smaller n ms
+
+-- Each of these, of which the latest stands first, is greater than all that came before it.
+unfoldable pub Rising : List ℤ → Type 0
+Rising [] = Unit {0}
+Rising (n ∷ ns) = Smaller n ns × Rising ns
 
 -- No sender is held in two places, and the book has 32.
 abbrev pub Each-sender-once : Type 0
@@ -76,8 +82,11 @@ Each-sender-once = (p : Point) → History p → Once (p .book) × (length (p .b
 abbrev pub Held-where-taken : Type 0
 Held-where-taken =
     (p : Point) → History p → (c : ℕ) (l : List ℕ)
-    → (numbersOf c l (p .events) ≡ [] → isHeld (p .book) (idOf c l) ≡ false)
-    × (isHeld (p .book) (idOf c l) ≡ false → numbersOf c l (p .events) ≡ [])
+    → (numbersOf c l (p .events) ≡ []) ↔ (isHeld (p .book) (idOf c l) ≡ false)
+
+-- The numbers taken from a sender since it was last closed rise.
+abbrev pub Numbers-rise : Type 0
+Numbers-rise = (p : Point) → History p → (c : ℕ) (l : List ℕ) → Rising (numbersOf c l (p .events))
 
 -- The number held is the last taken from the sender since it was last closed, and the greatest: all others are smaller.
 abbrev pub Number-is-the-last : Type 0
