@@ -148,9 +148,12 @@ same-exactly c d l k hl hk = (
   λ w. ap (λ (x : Id). sameId x (idOf d k)) (λ i. idOf (w .0 i) (w .1 i)) ∙ same-self d k hk,
 )
 
--- an id that is too long is nobody's
+-- an id that is somebody's is not too long
+pub same-short : (x : Id) (c : ℕ) (l : List ℕ) → sameId x (idOf c l) ≡ true → length l ≤ idBytes
+same-short x c l e = common x (idOf c l) e .short
+
 pub same-long : (x : Id) (c : ℕ) (l : List ℕ) → idBytes < length l → sameId x (idOf c l) ≡ true → ⊥
-same-long x c l h e = let n = common x (idOf c l) e .short in omega arith
+same-long x c l h e = let n = same-short x c l e in omega arith
 
 -- the same sender, by type code and value bytes
 pub sender-true : (c d : ℕ) (l k : List ℕ) → sameSender c l d k ≡ true → (c ≡ d) × (l ≡ k)

@@ -26,7 +26,6 @@ use Rattle.senders_book.specs.Book.{
   isHeld,
   numberHeld,
   hasPlace,
-  closingId,
   closing,
 }
 use Rattle.senders_book.specs.Taking.{Stamp, Entry, entryAs, stamping, holding, taking, bookAfter}
@@ -41,7 +40,7 @@ use Rattle.senders_book.specs.Promises.{
   Closing-removes,
   Closing-unknown,
 }
-use Rattle.senders_book.proofs.IdLaws.{same-long, holds-same, holds-own}
+use Rattle.senders_book.proofs.IdLaws.{same-short, holds-same, holds-own}
 use Rattle.senders_book.proofs.PlaceLaws.{
   place-holds,
   free-least,
@@ -213,7 +212,7 @@ repeat-is-refused b s m e r z =
 pub refused-changes-nothing : Refused-changes-nothing
 refused-changes-nothing b s k p e = ap (bookAfter b) e
 
--- ---- closing, by its two tests
+-- ---- closing, by its test
 pub record Closes (b : List Sender) (c : ℕ) (l : List ℕ) : Type 0 where
   pub says : closing b c l .held ≡ true
   pub short : length l ≤ idBytes
@@ -225,18 +224,16 @@ pub record Leaves (b : List Sender) (c : ℕ) (l : List ℕ) : Type 0 where
   pub unknown : isHeld b (idOf c l) ≡ false
   pub same : closing b c l .book ≡ b
 
--- nobody's id is too long
-pub long-unknown : (b : List Sender) (c : ℕ) (l : List ℕ) → idBytes < length l → isHeld b (idOf c l) ≡ false
-long-unknown b c l h = is-not-held b (idOf c l) (λ j x. same-long _ c l h (holds-same (entryIn b j) (idOf c l) x))
-
 pub closing-cases : (b : List Sender) (c : ℕ) (l : List ℕ) → Closes b c l ⊎ Leaves b c l
-unfolding closing closingId
-closing-cases b c l = go (leb (length l) idBytes) refl (isHeld b (idOf c l)) refl
+unfolding closing
+closing-cases b c l = go (isHeld b (idOf c l)) refl
   where
-    go : (t : Bool) → leb (length l) idBytes ≡ t → (u : Bool) → isHeld b (idOf c l) ≡ u → Closes b c l ⊎ Leaves b c l
-    go true q true r = inl (record { says = rw (q, r) refl; short = leb-true _ _ q; held = r; frees = rw (q, r) refl })
-    go true q false r = inr (record { says = rw (q, r) refl; unknown = r; same = rw (q, r) refl })
-    go false q u r = inr (record { says = rw q refl; unknown = long-unknown b c l (leb-false _ _ q); same = rw q refl })
+    go : (t : Bool) → isHeld b (idOf c l) ≡ t → Closes b c l ⊎ Leaves b c l
+    go true h =
+        let there = place-holds b (idOf c l) (ltb-true _ _ h) in
+        let short = same-short _ c l (holds-same (entryIn b (placeOf b (idOf c l))) (idOf c l) there) in
+        inl (record { says = rw h refl; short = short; held = h; frees = rw h refl })
+    go false h = inr (record { says = rw h refl; unknown = h; same = rw h refl })
 
 pub not-both : true ≡ false → ⊥
 not-both e = let z : _≡_ {A = ℕ} 0 1 = cc in omega arith

@@ -26,9 +26,10 @@ use Rattle.senders_book.specs.Book.{
   numberHeld,
   hasPlace,
   settling,
-  closingId,
   closing,
 }
+use Rattle.senders_book.proofs.IdLaws.{same-long, holds-same}
+use Rattle.senders_book.proofs.PlaceLaws.{is-not-held}
 use Rattle.senders_book.specs.Taking.{Stamp, stamped, framePlace, stampAt, entryAs, stamping, takingFramed}
 
 -- what settling answers, by whether the sender is held
@@ -110,16 +111,19 @@ module _ (b : List Sender) (s : List ℕ) (frames : List Frame) where
 
 -- closing
 module _ (b : List Sender) (c : ℕ) (l : List ℕ) where
+  -- nobody's id is too long
+  long-unknown : idBytes < length l → isHeld b (idOf c l) ≡ false
+  long-unknown h = is-not-held b (idOf c l) (λ j x. same-long _ c l h (holds-same (entryIn b j) (idOf c l) x))
+
   pub close-long : idBytes < length l → record { held = false; book = b } ≡ closing b c l
   unfolding closing
-  close-long h = rw (lt-leb (length l) idBytes h) refl
+  close-long h = rw (long-unknown h) refl
 
-  module _ (h : length l ≤ idBytes) where
-    module _ (id : Id) (q : id ≡ idOf c l) (i : ℕ) (p : i ≡ placeOf b id) where
-      pub close-held : i < length b → record { held = true; book = set b i free } ≡ closing b c l
-      unfolding closing closingId
-      close-held g = rw (le-leb (length l) idBytes h, ← q, ← p, lt-ltb i (length b) g) refl
+  module _ (id : Id) (q : id ≡ idOf c l) (i : ℕ) (p : i ≡ placeOf b id) where
+    pub close-held : i < length b → record { held = true; book = set b i free } ≡ closing b c l
+    unfolding closing
+    close-held g = rw (← q, ← p, lt-ltb i (length b) g) refl
 
-      pub close-none : length b ≤ i → record { held = false; book = b } ≡ closing b c l
-      unfolding closing closingId
-      close-none g = rw (le-leb (length l) idBytes h, ← q, ← p, le-ltb i (length b) g) refl
+    pub close-none : length b ≤ i → record { held = false; book = b } ≡ closing b c l
+    unfolding closing
+    close-none g = rw (← q, ← p, le-ltb i (length b) g) refl

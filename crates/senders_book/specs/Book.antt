@@ -93,13 +93,10 @@ pub record Closing : Type 0 where
   pub held : Bool
   pub book : List Sender
 
--- Closing a sender: its place is free. Closing one that is not held changes nothing.
-unfoldable pub closingId : List Sender → Id → Closing
-closingId b id =
-    cond (isHeld b id)
-    (record { held = true; book = set b (placeOf b id) free })
-    (record { held = false; book = b })
-
--- Closing the sender of this type code and these value bytes. Nobody has more bytes than an id may have.
+-- Closing the sender of this type code and these value bytes: its place is free. Closing one that is not held changes
+-- nothing.
 unfoldable pub closing : List Sender → ℕ → List ℕ → Closing
-closing b c l = cond (leb (length l) idBytes) (closingId b (idOf c l)) (record { held = false; book = b })
+closing b c l =
+    cond (isHeld b (idOf c l))
+    (record { held = true; book = set b (placeOf b (idOf c l)) free })
+    (record { held = false; book = b })

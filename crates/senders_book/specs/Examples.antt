@@ -47,7 +47,6 @@ use Rattle.senders_book.specs.Book.{
   placeOf,
   freePlace,
   settling,
-  closingId,
   closing,
 }
 use Rattle.senders_book.specs.Taking.{
@@ -109,7 +108,7 @@ pub examples-hold :
     ∷ (fine 7 ∷ fine 7 ∷ fine 7 ∷ fine 7 ∷ fine 7 ∷ refused 26 24 ∷ refused 6 64 ∷ [])
     ∷ []
 unfolding
-    messages once full sample front alike sameId holds placeOf freePlace settling closingId closing
+    messages once full sample front alike sameId holds placeOf freePlace settling closing
     framePlace stampAt stamping takingFramed taking placed numberAt twos
     reading message messageRest enough limit
     header declared status frame magic digit literal among statusTaken fieldsTaken payload payloadFrom moved steps

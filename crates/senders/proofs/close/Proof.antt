@@ -32,7 +32,7 @@ returns-2 c =
     let long : length (a .book .senders) ≡ bookPlaces
     = sym (length-map (a .book .senders) _) ∙ made .before .before .before .good .0 .1 .1 .0 .1 .0 .1 in
     let inside : c .before .place-of .result < length (a .book .senders) = omega (arith, c .if2 .taken) in
-    ap afterClosing (close-held _ _ _ (made .before .if1 .left) _ (made .id-of .ensures) _ (c .before .place-of .ensures) inside)
+    ap afterClosing (close-held _ _ _ _ (made .id-of .ensures) _ (c .before .place-of .ensures) inside)
 
 returns-3 : tie.Need-returns-3
 returns-3 c =
@@ -41,7 +41,7 @@ returns-3 c =
     let long : length (a .book .senders) ≡ bookPlaces
     = sym (length-map (a .book .senders) _) ∙ made .before .before .before .good .0 .1 .1 .0 .1 .0 .1 in
     let past : length (a .book .senders) ≤ c .before .place-of .result = omega (arith, c .if2 .left) in
-    ap afterClosing (close-none _ _ _ (made .before .if1 .left) _ (made .id-of .ensures) _ (c .before .place-of .ensures) past)
+    ap afterClosing (close-none _ _ _ _ (made .id-of .ensures) _ (c .before .place-of .ensures) past)
 
 pub close-spec : {M : Type 1} → statement M
 close-spec =
