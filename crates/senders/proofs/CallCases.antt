@@ -72,18 +72,18 @@ place-shown (f ∷ fs) zero = refl
 place-shown (f ∷ fs) (suc k) = place-shown fs k
 
 -- frames that were handed over are the frames that were found
-shown-back : (fs : List H.Frame) → map shown (map framed fs) ≡ fs
+pub shown-back : (fs : List H.Frame) → map shown (map framed fs) ≡ fs
 shown-back [] = refl
 shown-back (f ∷ fs) = ap (_∷_ f) (shown-back fs)
 
 -- what judging a message says
-judge-refused : (x : S.Answer M.Reading) (r : Refusal) → answered x .said ≡ Refused r → x ≡ refused (r .number) (r .place)
+pub judge-refused : (x : S.Answer M.Reading) (r : Refusal) → answered x .said ≡ Refused r → x ≡ refused (r .number) (r .place)
 judge-refused (fine m) r q = let z : _≡_ {A = ℕ} 0 1 = cc in absurd (omega arith)
 judge-refused (refused k p) r q =
     let z : _≡_ {A = Refusal} (record { number = k; place = p }) r = cc in
     ap (λ (y : Refusal). refused (y .number) (y .place)) z
 
-judge-accepted : (x : S.Answer M.Reading) (f : Found) → answered x .said ≡ Accepted f → (m : M.Reading) × (x ≡ fine m)
+pub judge-accepted : (x : S.Answer M.Reading) (f : Found) → answered x .said ≡ Accepted f → (m : M.Reading) × (x ≡ fine m)
 judge-accepted (fine m) f q = (m, refl)
 judge-accepted (refused k p) f q = let z : _≡_ {A = ℕ} 0 1 = cc in absurd (omega arith)
 
