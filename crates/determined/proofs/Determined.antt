@@ -512,6 +512,7 @@ salvage-out = equated salvage.Post (λ κs z e. now (e .1 .0)) _ (λ κs a z e p
 -- The call of crate commands.
 pub command-result : Determines command.Post (λ κs z e. z)
 command-result = determined command.Post (λ κs z e. z) (λ κs. told) (λ κs. command-apart) _ (λ κs a z e p. p)
+
 -- The calls of the book of senders.
 pub place-of-result : Determines place-of.Post (λ κs z e. z)
 place-of-result = equated place-of.Post (λ κs z e. z) _ (λ κs a z e p. p)

@@ -4,7 +4,6 @@ use Prim.Native.Nat.{ℕ, zero, suc}
 use mathlib.Core.Path.{_≡_, refl, sym, ap, _∙_}
 use mathlib.Core.Bool.{Bool, true}
 use mathlib.Core.List.{List, [], _∷_, map}
-use native.Mathlib.Omega.{arith}
 use lib.ListN.{length, getD, set, replicate}
 use lib.IntN.{ℤ}
 use lib.Signed.{ltZ}
@@ -25,6 +24,7 @@ use Rattle.reading.specs.declared.Answer.{Answer}
 use Rattle.reading.specs.declared.Found.{Found}
 use Rattle.reading.specs.declared.Reading.the-variants.{Accepted, Refused}
 use Rattle.reading.specs.Answers.{answered}
+use Rattle.reading.proofs.SaidLaws.{said-fine, said-refused}
 use Rattle.senders_book.specs.declared.Book.{Book}
 use Rattle.senders_book.specs.declared.Id.{Id}
 use Rattle.senders_book.specs.declared.Sender.{Sender}
@@ -76,26 +76,15 @@ pub shown-back : (fs : List H.Frame) → map shown (map framed fs) ≡ fs
 shown-back [] = refl
 shown-back (f ∷ fs) = ap (_∷_ f) (shown-back fs)
 
--- what judging a message says
-pub judge-refused : (x : S.Answer M.Reading) (r : Refusal) → answered x .said ≡ Refused r → x ≡ refused (r .number) (r .place)
-judge-refused (fine m) r q = let z : _≡_ {A = ℕ} 0 1 = cc in absurd (omega arith)
-judge-refused (refused k p) r q =
-    let z : _≡_ {A = Refusal} (record { number = k; place = p }) r = cc in
-    ap (λ (y : Refusal). refused (y .number) (y .place)) z
-
-pub judge-accepted : (x : S.Answer M.Reading) (f : Found) → answered x .said ≡ Accepted f → (m : M.Reading) × (x ≡ fine m)
-judge-accepted (fine m) f q = (m, refl)
-judge-accepted (refused k p) f q = let z : _≡_ {A = ℕ} 0 1 = cc in absurd (omega arith)
-
 -- taking a message of which this is reading's answer
 module _ (b : List Sender) (s : List ℕ) (a : Answer) (e : a ≡ answered (reading noTable s)) where
   pub take-stops : (r : Refusal) → a .said ≡ Refused r → refused (r .number) (r .place) ≡ taking b s
   take-stops r q =
       sym (reading-comes-first b s (r .number) (r .place)
-      (judge-refused (reading noTable s) r (sym (ap (λ (y : Answer). y .said) e) ∙ q)))
+      (said-refused (reading noTable s) r (sym (ap (λ (y : Answer). y .said) e) ∙ q)))
 
   pub take-goes : (f : Found) → a .said ≡ Accepted f → takingFramed b s (map shown (a .frames)) ≡ taking b s
   take-goes f q =
-      let m = judge-accepted (reading noTable s) f (sym (ap (λ (y : Answer). y .said) e) ∙ q) in
+      let m = said-fine (reading noTable s) f (sym (ap (λ (y : Answer). y .said) e) ∙ q) in
       let found : a .frames ≡ map framed (m .0 .frames) = ap (λ (y : Answer). y .frames) (e ∙ ap answered (m .1)) in
       ap (takingFramed b s) (ap (map shown) found ∙ shown-back (m .0 .frames)) ∙ frames-are-enough b s (m .0) (m .1)
