@@ -21,6 +21,9 @@ use Rattle.scalars.specs.declared.answer.Value.the-variants.{Is, Refused as Val
 use Rattle.recordings_index.specs.Index.{trailedAs}
 use Rattle.recordings_index.specs.declared.Trailed.{Trailed}
 use Rattle.recordings_index.specs.declared.Trailed.the-variants.{Found, Wrong}
+use Rattle.ledger_judging.specs.Judging.{ordered}
+use Rattle.ledger_judging.specs.declared.Ordered.{Ordered}
+use Rattle.ledger_judging.specs.declared.Ordered.the-variants.{Granted, Refused as Ordered·Refused}
 use Rattle.recordings.specs.Recordings.{askedAs}
 use Rattle.recordings.specs.declared.Asked.{Asked}
 use Rattle.recordings.specs.declared.Asked.the-variants.{At, Refused as Asked·Refused}
@@ -107,6 +110,11 @@ use Rattle.senders.proofs.empty.Reads as book-empty
 use Rattle.senders.proofs.take_framed.Reads as take-framed
 use Rattle.senders.proofs.take.Reads as book-take
 use Rattle.senders.proofs.close.Reads as book-close
+use Rattle.ledger_judging.proofs.order.Reads as order
+use Rattle.ledger.proofs.empty.Reads as ledger-empty
+use Rattle.ledger.proofs.muster_framed.Reads as muster-framed
+use Rattle.ledger.proofs.muster.Reads as muster
+use Rattle.ledger_recordings.proofs.reckon.Reads as reckon
 use Rattle.puts.proofs.bits.Reads as bits
 use Rattle.puts.proofs.put_big.Reads as put-big
 use Rattle.puts.proofs.put_number.Reads as put-number
@@ -236,6 +244,12 @@ headed-apart (Headed·Accepted f) (Headed·Accepted g) e =
 headed-apart (Headed·Accepted f) (Headed·Refused r) e = absurd (not-fine (sym e))
 headed-apart (Headed·Refused r) (Headed·Accepted g) e = absurd (not-fine e)
 headed-apart (Headed·Refused r) (Headed·Refused q) e = ap Headed·Refused (same-refusal r q e)
+
+ordered-apart : (x y : Ordered) → ordered x ≡ ordered y → x ≡ y
+ordered-apart (Granted d) (Granted f) e = ap Granted (fine-eq e)
+ordered-apart (Granted d) (Ordered·Refused r) e = absurd (not-fine (sym e))
+ordered-apart (Ordered·Refused r) (Granted f) e = absurd (not-fine e)
+ordered-apart (Ordered·Refused r) (Ordered·Refused q) e = ap Ordered·Refused (same-refusal r q e)
 
 valued-apart : (x y : Value) → valued x ≡ valued y → x ≡ y
 valued-apart (Is v) (Is w) e = cc
@@ -531,6 +545,22 @@ book-take-result = equated book-take.Post (λ κs z e. z) _ (λ κs a z e p. p)
 
 pub book-close-result : Determines book-close.Post (λ κs z e. z)
 book-close-result = equated book-close.Post (λ κs z e. z) _ (λ κs a z e p. p)
+
+-- The calls of the ledger.
+pub order-result : Determines order.Post (λ κs z e. z)
+order-result = determined order.Post (λ κs z e. z) (λ κs. ordered) (λ κs. ordered-apart) _ (λ κs a z e p. p)
+
+pub ledger-empty-result : Determines ledger-empty.Post (λ κs z e. z)
+ledger-empty-result = equated ledger-empty.Post (λ κs z e. z) _ (λ κs a z e p. p)
+
+pub muster-framed-result : Determines muster-framed.Post (λ κs z e. z)
+muster-framed-result = equated muster-framed.Post (λ κs z e. z) _ (λ κs a z e p. p)
+
+pub muster-result : Determines muster.Post (λ κs z e. z)
+muster-result = equated muster.Post (λ κs z e. z) _ (λ κs a z e p. p)
+
+pub reckon-result : Determines reckon.Post (λ κs z e. z)
+reckon-result = equated reckon.Post (λ κs z e. z) _ (λ κs a z e p. p)
 
 -- The calls of crate puts.
 pub bits-result : Determines bits.Post (λ κs z e. z)

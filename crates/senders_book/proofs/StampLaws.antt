@@ -9,11 +9,27 @@ use lib.ListN.{length, take, drop}
 use lib.Dec.{leb}
 use borrow.Author.Tests.{eqb-true}
 use lib.Dec.{eqb}
-use Rattle.sim0mq.specs.Answer.{Answer, fine, refused, _>>=_, byte, big, partAt}
+use Rattle.sim0mq.specs.Answer.{Answer, fine, refused, _>>=_, byte, big, notNegative, partAt}
 use Rattle.sim0mq.specs.Codes.{widthOf, countsOf}
 use Rattle.sim0mq.specs.Mark.{marks}
 use Rattle.sim0mq.specs.Field.{Field, outline, field, head, booleans, booleansOf, after}
-use Rattle.sim0mq.specs.Header.{Header, header, magic, frame, status, declared, idCodes, numberCodes, among}
+use Rattle.sim0mq.specs.Header.{
+  Header,
+  Frame,
+  headerOf,
+  header,
+  magic,
+  frame,
+  status,
+  declared,
+  idCodes,
+  numberCodes,
+  statusCodes,
+  countCodes,
+  statusTaken,
+  fieldsTaken,
+  among,
+}
 use Rattle.sim0mq.specs.Payload.{payload}
 use Rattle.sim0mq.specs.Message.{limit, enough, noTable, Reading, messageRest, message, reading}
 use Rattle.sim0mq.proofs.Answers.{bind-fine, guarded, needed, needed-bind, fine-eq}
@@ -44,24 +60,58 @@ module _ (s : List ℕ) (at : ℕ) (x : Field) (q : outline s at ≡ fine x) whe
       let n = needed-bind s (b .0) (a .0 .values * widthOf (a .0 .code)) _ (b .2) in
       subst (λ (y : Field). y .first + y .size ≤ length s) (fine-eq (n .1)) (n .0)
 
--- a frame that is fine has a fine outline
-frame-outline : (s codes : List ℕ) (at : ℕ) (x : Field) → frame s codes at ≡ fine x → outline s at ≡ fine x
-unfolding frame field
-frame-outline s codes at x q =
-    let a = needed s at 1 _ q in
-    let b = guarded (among (byte s at) codes) _ _ _ (a .1) in
-    let f = bind-fine (outline s at) _ (b .1) in
+-- a field that is fine, and a frame, has a fine outline
+pub field-outline : (s : List ℕ) (at : ℕ) (x : Field) → field s at ≡ fine x → outline s at ≡ fine x
+unfolding field
+field-outline s at x q =
+    let f = bind-fine (outline s at) _ q in
     let g = bind-fine (booleans s (booleansOf (f .0 .code) (f .0 .size)) (f .0 .first)) _ (f .2) in
     f .1 ∙ g .2
 
--- frames 2 and 5, of a header and of a message
-pub record Frames (s : List ℕ) (two five : ℕ) : Type 0 where
-  pub from : Field
-  pub count : Field
-  pub isId : frame s idCodes two ≡ fine from
-  pub isNumber : frame s numberCodes five ≡ fine count
+pub frame-outline : (s codes : List ℕ) (at : ℕ) (x : Field) → frame s codes at ≡ fine x → outline s at ≡ fine x
+unfolding frame
+frame-outline s codes at x q =
+    let a = needed s at 1 _ q in
+    let b = guarded (among (byte s at) codes) _ _ _ (a .1) in
+    field-outline s at x (b .1)
 
-header-frames : (s : List ℕ) (h : Header) → header s ≡ fine h → Frames s (framePlace (h .frames) 2) (framePlace (h .frames) 5)
+-- a frame stands at the place that is said of it
+at-place : (s codes : List ℕ) (at p : ℕ) (x : Field) → frame s codes at ≡ fine x → x .place ≡ p → frame s codes p ≡ fine x
+at-place s codes at p x q e =
+    subst (λ (j : ℕ). frame s codes j ≡ fine x) (sym (outline-place s at x (frame-outline s codes at x q)) ∙ e) q
+
+-- frames 6 and 7, of which more is judged
+status-frame : (s : List ℕ) (at : ℕ) (x : Field) → status s at ≡ fine x → frame s statusCodes at ≡ fine x
+unfolding status
+status-frame s at x q =
+    let f = bind-fine (frame s statusCodes at) _ q in
+    let g = guarded (statusTaken (byte s (f .0 .first))) _ _ _ (f .2) in
+    f .1 ∙ g .1
+
+declared-frame : (s : List ℕ) (at : ℕ) (x : Field) → declared s at ≡ fine x → frame s countCodes at ≡ fine x
+unfolding declared
+declared-frame s at x q =
+    let f = bind-fine (frame s countCodes at) _ q in
+    let g = guarded (notNegative (byte s (f .0 .first))) _ _ _ (f .2) in
+    let h = guarded (fieldsTaken (big s (f .0 .first) (f .0 .size))) _ _ _ (g .1) in
+    f .1 ∙ h .1
+
+-- what is known of the frames of a header that is fine: the sender, the type, the number, the status, and the number of
+-- fields, after which the fields begin at `next`
+pub record Frames (s : List ℕ) (frames : List Frame) (next : ℕ) : Type 0 where
+  pub from : Field
+  pub kind : Field
+  pub count : Field
+  pub state : Field
+  pub many : Field
+  pub isId : frame s idCodes (framePlace frames 2) ≡ fine from
+  pub isKind : frame s idCodes (framePlace frames 4) ≡ fine kind
+  pub isNumber : frame s numberCodes (framePlace frames 5) ≡ fine count
+  pub isStatus : frame s statusCodes (framePlace frames 6) ≡ fine state
+  pub isMany : frame s countCodes (framePlace frames 7) ≡ fine many
+  pub ends : after many ≡ next
+
+header-frames : (s : List ℕ) (h : Header) → header s ≡ fine h → Frames s (h .frames) (h .next)
 unfolding header framePlace
 header-frames s h e =
     let m = bind-fine (magic s) _ e in
@@ -72,29 +122,33 @@ header-frames s h e =
     let n = bind-fine (frame s numberCodes (after (k .0))) _ (k .2) in
     let u = bind-fine (status s (after (n .0))) _ (n .2) in
     let c = bind-fine (declared s (after (u .0))) _ (u .2) in
-    let q = fine-eq (c .2) in
-    let two : after (r .0) ≡ framePlace (h .frames) 2
-    = sym (outline-place s (after (r .0)) (t .0) (frame-outline s idCodes (after (r .0)) (t .0) (t .1)))
-    ∙ ap (λ (x : Header). framePlace (x .frames) 2) q in
-    let five : after (k .0) ≡ framePlace (h .frames) 5
-    = sym (outline-place s (after (k .0)) (n .0) (frame-outline s numberCodes (after (k .0)) (n .0) (n .1)))
-    ∙ ap (λ (x : Header). framePlace (x .frames) 5) q in
+    let q : headerOf s (r .0) (t .0) (v .0) (k .0) (n .0) (u .0) (c .0) ≡ h = fine-eq (c .2) in
     record {
       from = t .0;
+      kind = k .0;
       count = n .0;
-      isId = subst (λ (p : ℕ). frame s idCodes p ≡ fine (t .0)) two (t .1);
-      isNumber = subst (λ (p : ℕ). frame s numberCodes p ≡ fine (n .0)) five (n .1);
+      state = u .0;
+      many = c .0;
+      isId = at-place s idCodes _ _ (t .0) (t .1) (ap (λ (g : Header). framePlace (g .frames) 2) q);
+      isKind = at-place s idCodes _ _ (k .0) (k .1) (ap (λ (g : Header). framePlace (g .frames) 4) q);
+      isNumber = at-place s numberCodes _ _ (n .0) (n .1) (ap (λ (g : Header). framePlace (g .frames) 5) q);
+      isStatus = at-place s statusCodes _ _ (u .0) (status-frame s _ (u .0) (u .1)) (ap (λ (g : Header). framePlace (g .frames) 6) q);
+      isMany = at-place s countCodes _ _ (c .0) (declared-frame s _ (c .0) (c .1)) (ap (λ (g : Header). framePlace (g .frames) 7) q);
+      ends = ap (λ (g : Header). g .next) q;
     }
 
-reading-frames : (s : List ℕ) (m : Reading) → reading noTable s ≡ fine m → Frames s (framePlace (m .frames) 2) (framePlace (m .frames) 5)
+pub reading-frames : (s : List ℕ) (m : Reading) → reading noTable s ≡ fine m
+    → (h : Header) × (header s ≡ fine h) × Frames s (m .frames) (h .next)
 unfolding reading message messageRest
 reading-frames s m e =
     let a = guarded (leb (length s) limit) _ _ _ e in
     let h = bind-fine (header s) _ (a .1) in
     let g = guarded (enough noTable (h .0 .fields)) _ _ _ (h .2) in
-    let p = bind-fine (partAt (h .0 .next) (payload (drop (h .0 .next) s) (h .0 .fields))) _ (g .1) in
-    subst (λ (x : Reading). Frames s (framePlace (x .frames) 2) (framePlace (x .frames) 5)) (fine-eq (p .2))
-    (header-frames s (h .0) (h .1))
+    let p = bind-fine (partAt (h .0 .next) (payload (drop (h .0 .next) s) (h .0 .fields))) _ (g .1) in (
+      h .0,
+      h .1,
+      subst (λ (x : Reading). Frames s (x .frames) (h .0 .next)) (fine-eq (p .2)) (header-frames s (h .0) (h .1)),
+    )
 
 -- the number frame has the one type code 3, which is a scalar's
 or-false : (t : Bool) → (t || false) ≡ true → t ≡ true
@@ -125,7 +179,7 @@ reading-comes-first b s k p e = go (reading noTable s) e
 
 pub accepted-is-stamped : Accepted-is-stamped
 accepted-is-stamped s m e =
-    let r = reading-frames s m e in
+    let r = reading-frames s m e .2 in
     let f = r .from in
     let g = r .count in
     let two = framePlace (m .frames) 2 in

@@ -1,0 +1,5 @@
+pub mod Decks
+pub mod Mustering
+pub mod Promises
+pub mod History
+pub mod Examples
