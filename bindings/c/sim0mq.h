@@ -9,7 +9,7 @@
  * Answers are numbers in `answer`, which the caller lends. A call returns
  *
  *     0          granted
- *     1 to 28    refused; the number is one of the table below
+ *     1 to 31    refused; the number is one of the table below
  *     255        `answer` is too short for the call's numbers (SIM0MQ_..._NUMBERS); nothing at all is written
  *
  * answer[0] is the returned number, and answer[1] the place of the fault, 0 where the call is granted. On a refusal the call's other numbers are 0
@@ -35,15 +35,18 @@
  *     17   value not of the kind asked or allowed                      0
  *     18   recording: trailer or index wrong, or over 4,096 entries    0
  *     19   currency code that Appendix A of the manual does not list   its first byte
- *     20   command: message type unknown, or no 8-bit string           the type frame
- *     21   command: wrong status, or wrong number of fields            the type frame
- *     22   command: a field's code, or its mark's unit type, is wrong  the field's code byte
+ *     20   command or muster: type unknown, or no 8-bit string         the type frame
+ *     21   command: wrong status; it or a muster: number of fields     the type frame
+ *     22   command or muster: a field's code, or its unit type, wrong  the field's code byte
  *     23   command: an empty string, or a word that is not of its set  the field's code byte
  *     24   sums: two quantities that cannot be combined                0
  *     25   sums: an operand or a result infinite or a NaN              0
  *     26   book of senders: an id of more than 32 value bytes          the sender frame
  *     27   book of senders: a number not greater than the one held     the number frame
  *     28   book of senders: a new sender, and no place free            the sender frame
+ *     29   deck ledger: no such deck                                   the field's code byte
+ *     30   deck ledger: no head on the deck left                       the field's code byte
+ *     31   deck ledger: the deck joined is full                        the field's code byte
  */
 #ifndef SIM0MQ_H
 #define SIM0MQ_H

@@ -3,7 +3,7 @@
 use std::error::Error;
 use std::fmt;
 
-/// Why a call was refused, as one of the twenty-eight numbers, 1 to 28.
+/// Why a call was refused, as one of the thirty-one numbers, 1 to 31.
 #[derive(Clone, Copy, Debug, PartialEq, Eq, PartialOrd, Ord, Hash)]
 #[repr(u8)]
 pub enum RefusalKind {
@@ -48,12 +48,14 @@ pub enum RefusalKind {
     Tail = 18,
     /// 19: a mark's currency code is none of the manual's list. The place is its first byte.
     CurrencyCode = 19,
-    /// 20: the message type is no command's, or no 8-bit string. The place is the type frame.
+    /// 20: the message type is no command's, or no muster's, or no 8-bit string. The place is the
+    /// type frame.
     MessageType = 20,
-    /// 21: a command's status or number of fields is wrong. The place is the type frame.
+    /// 21: a command's status, or its or a muster's number of fields is wrong. The place is the type
+    /// frame.
     CommandShape = 21,
-    /// 22: a command's field has a wrong code, or its mark a wrong unit type. The place is the
-    /// field's code byte.
+    /// 22: a field of a command or of a muster has a wrong code, or its mark a wrong unit type. The
+    /// place is the field's code byte.
     CommandCode = 22,
     /// 23: a command's string is empty, or none of its words. The place is the field's code byte.
     CommandText = 23,
@@ -69,11 +71,17 @@ pub enum RefusalKind {
     /// 28: the sender is new, and the book of senders has no place free. The place is the sender
     /// frame.
     BookFull = 28,
+    /// 29: there is no such deck. The place is the code byte of the field that names it.
+    NoDeck = 29,
+    /// 30: no head is on the deck left. The place is the code byte of the field that names it.
+    NoHead = 30,
+    /// 31: the deck joined is full. The place is the code byte of the field that names it.
+    DeckFull = 31,
 }
 
 impl RefusalKind {
-    /// All twenty-eight, in the order of their numbers.
-    pub const ALL: [RefusalKind; 28] = [
+    /// All thirty-one, in the order of their numbers.
+    pub const ALL: [RefusalKind; 31] = [
         RefusalKind::EndsEarly,
         RefusalKind::WrongStart,
         RefusalKind::WrongEdition,
@@ -102,15 +110,18 @@ impl RefusalKind {
         RefusalKind::LongSender,
         RefusalKind::NumberNotGreater,
         RefusalKind::BookFull,
+        RefusalKind::NoDeck,
+        RefusalKind::NoHead,
+        RefusalKind::DeckFull,
     ];
 
-    /// The kind with this number, or `None` where the number is not 1 to 28.
+    /// The kind with this number, or `None` where the number is not 1 to 31.
     #[must_use]
     pub fn of(number: u8) -> Option<RefusalKind> {
         RefusalKind::ALL.into_iter().find(|kind| kind.number() == number)
     }
 
-    /// Its number, 1 to 28.
+    /// Its number, 1 to 31.
     #[must_use]
     pub const fn number(self) -> u8 {
         self as u8
@@ -139,15 +150,18 @@ impl RefusalKind {
             RefusalKind::WrongKind => "not a scalar that can be asked or written",
             RefusalKind::Tail => "trailer or index of a recording wrong",
             RefusalKind::CurrencyCode => "unknown currency code",
-            RefusalKind::MessageType => "message type that no command has",
+            RefusalKind::MessageType => "message type that is not known here",
             RefusalKind::CommandShape => "wrong status or number of fields",
-            RefusalKind::CommandCode => "field code that this command cannot have here",
+            RefusalKind::CommandCode => "field code that cannot stand here",
             RefusalKind::CommandText => "string empty or not of its set of words",
             RefusalKind::NotCombined => "quantities that cannot be combined",
             RefusalKind::NotFinite => "infinite or not a number in a sum",
             RefusalKind::LongSender => "sender id above 32 bytes",
             RefusalKind::NumberNotGreater => "message number not greater",
             RefusalKind::BookFull => "no place free for a new sender",
+            RefusalKind::NoDeck => "no such deck",
+            RefusalKind::NoHead => "no head on the deck left",
+            RefusalKind::DeckFull => "the deck joined is full",
         }
     }
 }
@@ -186,7 +200,7 @@ impl Refusal {
         Refusal { kind, place }
     }
 
-    /// Its number, 1 to 28.
+    /// Its number, 1 to 31.
     #[must_use]
     pub const fn number(self) -> u8 {
         self.kind.number()

@@ -11,7 +11,7 @@ use crate::with;
 fn each_number_has_a_kind_with_words_of_its_own() {
     let mut words = HashSet::new();
     let mut all = RefusalKind::ALL.into_iter();
-    for number in 1..=28 {
+    for number in 1..=31 {
         let kind = RefusalKind::of(number).unwrap();
         assert_eq!((kind.number(), Some(kind)), (number, all.next()));
         assert!(!kind.meaning().is_empty());
@@ -20,8 +20,8 @@ fn each_number_has_a_kind_with_words_of_its_own() {
         assert_eq!(refusal.to_string(), format!("refused {number} at 5: {}", kind.meaning()));
         assert!(words.insert(kind.to_string()));
     }
-    assert_eq!(words.len(), 28);
-    assert_eq!([0, 29, 255].map(RefusalKind::of), [None; 3]);
+    assert_eq!(words.len(), 31);
+    assert_eq!([0, 32, 255].map(RefusalKind::of), [None; 3]);
 }
 
 #[test]
