@@ -23,6 +23,11 @@ abbrev pub viewOf : List ℕ → Answer Field → List ℕ
 viewOf s (fine f) = take (f .size) (drop (f .first) s)
 viewOf s (refused k p) = []
 
+-- Where the view begins in the message: at the field's first value byte; at its front where asking is refused.
+abbrev pub viewPlace : Answer Field → ℕ
+viewPlace (fine f) = f .first
+viewPlace (refused k p) = 0
+
 -- The field whose row this is.
 abbrev pub fieldIn : List ℕ → Field
 fieldIn r =

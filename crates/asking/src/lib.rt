@@ -1,7 +1,9 @@
 // Asking: the field k of a message, read afresh, and a view of its value bytes.
 ghost use mathlib.Core.Path.{_≡_};
+ghost use Prim.Native.Nat.{_+_};
+ghost use denote.Ref.{ptr};
 ghost use Rattle.fields.specs.Items.{fielded, seen};
-ghost use Rattle.asking.specs.Asking.{asked, viewOf, fieldIn};
+ghost use Rattle.asking.specs.Asking.{asked, viewOf, viewPlace, fieldIn};
 use fields::Field;
 use fields::Fielded;
 use front::Lent;
@@ -55,7 +57,10 @@ pub fn ask(message: &[u8], k: usize) -> Fielded
 
 // The very part of the message that holds field k's value bytes; empty where asking is refused.
 pub fn view(message: &[u8], k: usize) -> &[u8]
-    ensures { λ r. ⌜ now r ≡ viewOf (now (message .entry)) (asked (now (message .entry)) k) ⌝ }
+    ensures bytes { λ r. ⌜ now r ≡ viewOf (now (message .entry)) (asked (now (message .entry)) k) ⌝ }
+    ensures part { λ r.
+        ⌜ (ptr r .0 ≡ ptr (message .entry) .0)
+        × (ptr r .1 ≡ ptr (message .entry) .1 + viewPlace (asked (now (message .entry)) k)) ⌝ }
 {
     match ask(message, k) {
         Fielded::Refused(_) => &message[0..0],

@@ -2,7 +2,7 @@
 use mathlib.Core.Path.{_≡_, refl, ap, sym, _∙_}
 use mathlib.Core.Bool.{cond}
 use lib.Dec.{eqb}
-use denote.Ref.{now}
+use denote.Ref.{now, ptr}
 use Rattle.sim0mq.specs.Answer.{Answer, fine, refused}
 use Rattle.sim0mq.specs.Views.{judged}
 use Rattle.sim0mq.specs.declared.Refusal.{Refusal}
@@ -409,7 +409,7 @@ header-result = equated header.Post (λ κs z e. z) _ (λ κs a z e p. p)
 pub id-result : Determines id.Post (λ κs z e. z)
 id-result = determined id.Post (λ κs z e. z) (λ κs. fielded) (λ κs. fielded-apart) _ (λ κs a z e p. p)
 
--- The calls of crate reading.
+-- The calls of crates front and reading.
 pub opened-result : Determines opened.Post (λ κs z e. z)
 opened-result = equated opened.Post (λ κs z e. z) _ (λ κs a z e p. p)
 
@@ -427,7 +427,10 @@ pub ask-result : Determines ask.Post (λ κs z e. z)
 ask-result = determined ask.Post (λ κs z e. z) (λ κs. fielded) (λ κs. fielded-apart) _ (λ κs a z e p. p)
 
 pub view-result : Determines view.Post (λ κs z e. now z)
-view-result = equated view.Post (λ κs z e. now z) _ (λ κs a z e p. p)
+view-result = equated view.Post (λ κs z e. now z) _ (λ κs a z e p. p .0)
+
+pub view-part : Determines view.Post (λ κs z e. ptr z)
+view-part = equated view.Post (λ κs z e. ptr z) _ (λ κs a z e p. (λ i. (p .1 .0 i, p .1 .1 i)))
 
 -- The call of crate scalars.
 pub value-result : Determines value.Post (λ κs z e. z)

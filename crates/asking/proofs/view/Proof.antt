@@ -1,11 +1,13 @@
 -- The part from the first value byte to the last is the field's, and lies in the message.
 use borrow.Author.Needs.{needs}
 use Prim.Native.Nat.{ℕ, _+_, _-_}
-use mathlib.Core.Path.{_≡_, sym, ap, _∙_}
+use mathlib.Core.Path.{_≡_, refl, sym, ap, _∙_}
+use denote.Ref.{ptr}
 use lib.ListN.{take, drop}
 use native.Mathlib.Omega.{arith}
+use native.Mathlib.Nat.{add-comm}
 use Rattle.fields.specs.Items.{fielded}
-use Rattle.asking.specs.Asking.{viewOf}
+use Rattle.asking.specs.Asking.{viewOf, viewPlace}
 use Rattle.asking.proofs.PartLaws.{asked-inside}
 use Rattle.asking.proofs.view.Statement.{statement}
 use Rattle.asking.proofs.view.Tie as tie
@@ -41,7 +43,10 @@ part-result-end-2 : tie.Need-part-result-end-2
 part-result-end-2 c = let within = asked-inside _ _ _ (sym (c .before .before .before .before .ask .ensures) ∙ ap fielded (c .before .before .f .given .1)) in omega arith
 
 returns : tie.Need-returns
-returns c = sym (ap (viewOf _) (sym (c .before .before .before .ask .ensures) ∙ ap fielded (c .before .enum-told .given .1)))
+returns c =
+    let none = sym (c .before .before .before .ask .ensures) ∙ ap fielded (c .before .enum-told .given .1) in
+    let offset = ptr (c .before .before .before .before .before .args .message) .1 in
+    (sym (ap (viewOf _) none), (refl, add-comm 0 offset ∙ ap (λ (n : ℕ). offset + n) (sym (ap viewPlace none))))
 
 returns-2 : tie.Need-returns-2
 returns-2 c =
@@ -49,7 +54,10 @@ returns-2 c =
     let size = c .before .before .before .f .given .0 .0 .size in
     let e : first + size - first ≡ size = omega arith in
     let found = sym (c .before .before .before .before .before .ask .ensures) ∙ ap fielded (c .before .before .before .f .given .1) in
-    ap (λ (n : ℕ). take n (drop first (c .before .before .before .before .before .before .before .args .message .now))) e ∙ sym (ap (viewOf _) found)
+    let message = c .before .before .before .before .before .before .before .args .message in (
+      ap (λ (n : ℕ). take n (drop first (message .now))) e ∙ sym (ap (viewOf _) found),
+      (refl, add-comm first (ptr message .1) ∙ ap (λ (n : ℕ). ptr message .1 + n) (sym (ap viewPlace found))),
+    )
 
 pub view-spec : {M : Type 1} → statement M
 view-spec =
