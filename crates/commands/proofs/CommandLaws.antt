@@ -1,7 +1,7 @@
 -- How the definitions answer, case by case, in the words of the code's tests.
 use Prim.Native.Nat.{ℕ, zero, suc, _+_, _-_, _*_, _≤_, _<_}
 use mathlib.Core.Path.{_≡_, refl, ap, sym, _∙_}
-use mathlib.Core.Bool.{Bool, true, false, _||_}
+use mathlib.Core.Bool.{Bool, true, false}
 use mathlib.Core.Logic.{_⊎_, inl, inr}
 use mathlib.Core.List.{List, [], _∷_, map}
 use native.Mathlib.Omega.{arith}
@@ -12,6 +12,7 @@ use lib.Dec.{leb, eqb}
 use borrow.Author.Tests.{eqb-true, eqb-false, eq-eqb, ne-eqb, le-leb, lt-leb}
 use Rattle.sim0mq.specs.Answer.{byte, big}
 use Rattle.commands_page.specs.Page.{Rule, any, Want, one, string, numberOr, boolean, short, integer, long, double, anyType, duration, time, basic}
+use Rattle.commands_page.proofs.PageLaws.{or-no}
 use Rattle.commands.specs.Tables.{legend, wantOf, fieldOf}
 use Rattle.commands_page.specs.Judging.{standsAt, isWord, isOneOf, codeTaken, textTaken, passes}
 
@@ -48,18 +49,14 @@ module _ (s : List ℕ) (at : ℕ) (w : List ℕ) where
   stands-start = let q : at ≡ at + 0 = omega arith in rw (← q)
 
 -- codes
-or-false : (b : Bool) → b || false ≡ b
-or-false true = refl
-or-false false = refl
-
 module _ (w c u : ℕ) where
   pub one-taken : (k : ℕ) (r : Rule) → wantOf w ≡ one k r → eqb c k ≡ codeTaken (wantOf w .codes) c u
   unfolding codeTaken
-  one-taken k r e = sym (ap (λ (x : Want). codeTaken (x .codes) c u) e ∙ or-false (eqb c k))
+  one-taken k r e = sym (ap (λ (x : Want). codeTaken (x .codes) c u) e ∙ or-no (eqb c k))
 
   pub any-taken : wantOf w ≡ anyType → leb c 32 ≡ codeTaken (wantOf w .codes) c u
   unfolding codeTaken
-  any-taken e = sym (ap (λ (x : Want). codeTaken (x .codes) c u) e ∙ simp (le-leb 0 c (omega arith)) (or-false (leb c 32)))
+  any-taken e = sym (ap (λ (x : Want). codeTaken (x .codes) c u) e ∙ simp (le-leb 0 c (omega arith)) (or-no (leb c 32)))
 
   pub same-taken : (x : Want) (b : Bool) → wantOf w ≡ x → b ≡ codeTaken (x .codes) c u → b ≡ codeTaken (wantOf w .codes) c u
   same-taken x b e h = h ∙ ap (λ (y : Want). codeTaken (y .codes) c u) (sym e)
@@ -83,11 +80,11 @@ module _ (c u t : ℕ) where
   timed-unit h l = go (eqb c 25) refl
     where
       go : (b : Bool) → eqb c 25 ≡ b → eqb u t ≡ codeTaken (numberOr t .codes) c u
-      go true e = simp (le-leb 1 c (omega arith), lt-leb c 5 (omega arith), e, ne-eqb c 26 (let d = eqb-true c 25 e in λ e. omega arith)) (sym (or-false (eqb u t)))
+      go true e = simp (le-leb 1 c (omega arith), lt-leb c 5 (omega arith), e, ne-eqb c 26 (let d = eqb-true c 25 e in λ e. omega arith)) (sym (or-no (eqb u t)))
       go false e =
           let d = eqb-false c 25 e in
           let s : c ≡ 26 = below d h l in
-          simp (le-leb 1 c (omega arith), lt-leb c 5 (omega arith), e, eq-eqb c 26 s) (sym (or-false (eqb u t)))
+          simp (le-leb 1 c (omega arith), lt-leb c 5 (omega arith), e, eq-eqb c 26 s) (sym (or-no (eqb u t)))
         where
           below : (c ≡ 25 → ⊥) → 25 ≤ c → c ≤ 26 → c ≡ 26
           below d h l = omega arith
@@ -103,7 +100,7 @@ module _ (c : ℕ) where
 
   pub basic-nine : 3 < c → eqb c 9 ≡ codeTaken (basic .codes) c 0
   unfolding codeTaken
-  basic-nine h = simp (le-leb 1 c (omega arith), lt-leb c 3 h) (sym (or-false (eqb c 9)))
+  basic-nine h = simp (le-leb 1 c (omega arith), lt-leb c 3 h) (sym (or-no (eqb c 9)))
 
 -- a number of no want is a plain string, and past the strings with a rule there is none
 getD-rule : (l : List Want) (k : ℕ) → map (λ (w : Want). w .rule) l ≡ replicate (length l) any → getD l k string .rule ≡ any
@@ -135,7 +132,7 @@ module _ (s : List ℕ) (at size : ℕ) where
 
   pub words-last : (w : List ℕ) → isWord s at size w ≡ isOneOf s at size (w ∷ [])
   unfolding isOneOf
-  words-last w = sym (or-false (isWord s at size w))
+  words-last w = sym (or-no (isWord s at size w))
 
 pub big-four : (s : List ℕ) (at a b c d : ℕ) → a ≡ byte s at → b ≡ byte s (at + 1) → c ≡ byte s (at + 2) → d ≡ byte s (at + 3)
     → ((a * 256 + b) * 256 + c) * 256 + d ≡ big s at 4

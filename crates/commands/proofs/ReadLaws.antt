@@ -1,5 +1,5 @@
--- What reading leaves for the judge: the frames it looks at, and a table that holds the fields. A table that is too short
--- for the rows is refused by 14, and with any other the judge answers as with none.
+-- What reading leaves for the judge: the frames it looks at, and a table that holds the fields. A table that is too
+-- short for the rows is refused by 14, and with any other the judge answers as with none.
 use Prim.Native.Nat.{ℕ, suc, _+_, _*_, _≤_, _<_}
 use mathlib.Core.Path.{_≡_, refl, ap, sym, _∙_, subst}
 use mathlib.Core.Bool.{Bool, true, false}
@@ -7,17 +7,17 @@ use mathlib.Core.List.{List, map, flatMap, _++_, [], _∷_}
 use mathlib.Core.Logic.{_⊎_, inl, inr}
 use native.Mathlib.Omega.{arith}
 use lib.ListN.{length, getD, drop, length-append, List·getD-map}
-use lib.Dec.{leb, ltb, eqb}
-use borrow.Author.Tests.{leb-true, ltb-true, le-leb}
+use lib.Dec.{leb}
+use borrow.Author.Tests.{leb-true, le-leb}
 use Rattle.sim0mq.specs.Answer as S
-use Rattle.sim0mq.specs.Answer.{fine, refused, byte}
+use Rattle.sim0mq.specs.Answer.{fine, refused}
 use Rattle.sim0mq.specs.Field.{Field}
 use Rattle.sim0mq.specs.Header.{Header, fieldsTaken, header}
 use Rattle.sim0mq.specs.Table.{row, rowSize, rows, stored}
 use Rattle.sim0mq.specs.Message as M
 use Rattle.sim0mq.specs.Message.{limit, enough, message, reading, tableAfter}
 use Rattle.sim0mq.specs.Allowed.{fieldBytes, headerBytes, headerFrames}
-use Rattle.sim0mq.proofs.Answers.{not-fine, guarded, bind-fine, fine-eq}
+use Rattle.sim0mq.proofs.Answers.{not-fine}
 use Rattle.sim0mq.proofs.HeaderLaws.{header-sound}
 use Rattle.sim0mq.proofs.PayloadLaws.{fields-many}
 use Rattle.sim0mq.proofs.MessageLaws.{message-sound}
@@ -28,9 +28,10 @@ use Rattle.reading.specs.declared.Answer.{Answer}
 use Rattle.reading.specs.declared.Reading.the-variants.{Accepted, Refused}
 use Rattle.reading.specs.Answers.{answered, foundIn}
 use Rattle.reading.proofs.SaidLaws.{said-fine, said-refused}
-use Rattle.commands_page.specs.Page.{page, rowAt}
-use Rattle.commands_page.specs.Judging.{noFrame, looks, looksAt, Looks, numberAt, numberRight, each, fieldsRight, rowRight, commandOf, commanded}
+use Rattle.commands_page.specs.Page.{page}
+use Rattle.commands_page.specs.Judging.{noFrame, looks, looksAt, Looks, commandOf, commanded}
 use Rattle.commands_page.proofs.PageLaws.{page-long}
+use Rattle.commands_page.proofs.Places.{accepts-by-places}
 use Rattle.commands_page.proofs.PartLaws.{cut-within}
 use Rattle.commands.specs.Tables.{Held, commandedBy}
 use Rattle.commands.proofs.EachLaws.{held}
@@ -157,22 +158,6 @@ module _ (s : List ℕ) (m : M.Reading) (r : ℕ) (q : reading (M.table r) s ≡
   unfolding commandedBy
   commanded-is = simp q
 
--- the number of a command is below 18
-command-below : (s : List ℕ) (l : Looks) (fs : List Field) (k : ℕ) → commandOf s l fs ≡ fine k → k < 18
-unfolding commandOf rowRight fieldsRight
-command-below s l fs k e =
-    let a = guarded (eqb (l .code) 9) 20 (l .kind) _ e in
-    let b = guarded (ltb (numberAt s l) (length page)) 20 (l .kind) _ (a .1) in
-    let j = numberAt s l in
-    let d = guarded (eqb (byte s (l .status)) (rowAt j .status)) 21 (l .kind) _ (b .1) in
-    let f = bind-fine (numberRight s (l .kind) (rowAt j) fs) _ (d .1) in
-    let g = bind-fine (each s (rowAt j) 22 0 fs) _ (f .2) in
-    let i = bind-fine (each s (rowAt j) 23 0 fs) _ (g .2) in
-    let same : j ≡ k = fine-eq (i .2) in
-    let below : j < length page = ltb-true j (length page) (b .0) in
-    let long = page-long in
-    omega arith
-
 -- where reading accepts: what the judge is given, and what it answers
 abbrev none : Frame
 none = record { place = 0; code = 0 }
@@ -236,6 +221,9 @@ module _
           (judged-of s (got .0) (length t) (got .1) (a .frames) frames-are _ _ _ _ none refl refl refl refl refl)
           ∙ sym (commanded-is s (got .0) (length t) (got .1))
 
-      pub command-told : (k : ℕ) → fine k ≡ commandedBy (length t) s → k < 18
-      command-told k q =
-          command-below s (looks (got .0 .frames)) (got .0 .fields) k (sym (q ∙ commanded-is s (got .0) (length t) (got .1)))
+-- a command that is found has a row of the page
+pub command-told : (s : List ℕ) (r k : ℕ) → fine k ≡ commandedBy r s → k < 18
+command-told s r k q =
+    let listed = accepts-by-places s k .0 (sym (by-found r s k q)) .listed in
+    let long = page-long in
+    omega arith

@@ -11,7 +11,7 @@ use lib.Ieee.{nan}
 use borrow.Author.Tests.{eqb-true}
 use types.Run.{OneOf}
 use denote.Enum.Declared.{tagOf}
-use Rattle.sim0mq.specs.Answer.{Answer, fine, refused, _>>=_}
+use Rattle.sim0mq.specs.Answer.{Answer, fine, refused}
 use Rattle.sim0mq.proofs.Answers.{and-true}
 use Rattle.sim0mq.proofs.Rows.{allPass}
 use Rattle.sums_pairs.specs.Pairs as Q

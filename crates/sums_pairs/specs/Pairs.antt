@@ -61,17 +61,17 @@ ofOnePair p q r = do
   guard (samePair p q) 24 0
   fine r
 
--- The sum of two quantities. Two relatives make a relative, shown as the first is; a relative and an absolute, whichever
--- comes first, make an absolute, shown as the absolute one is; of two absolutes there is none.
+-- The sum of two quantities. Two relatives make a relative, shown as the first is; a relative and an absolute,
+-- whichever comes first, make an absolute, shown as the absolute one is; of two absolutes there is none.
 unfoldable pub quantitySum : Quantity → Quantity → Answer Quantity
 quantitySum (relative p x) (relative q y) = ofOnePair p q (relative p (plus x y (x .display)))
 quantitySum (absolute p x) (relative q y) = ofOnePair p q (absolute p (plus x y (x .display)))
 quantitySum (relative p x) (absolute q y) = ofOnePair p q (absolute q (plus x y (y .display)))
 quantitySum (absolute p x) (absolute q y) = refused 24 0
 
--- The difference of two. A relative taken from a relative leaves a relative, shown as the first is; from an absolute, an
--- absolute, shown as that is. An absolute taken from an absolute leaves a relative, shown by 0; from a relative it can't
--- be taken.
+-- The difference of two. A relative taken from a relative leaves a relative, shown as the first is; from an absolute,
+-- an absolute, shown as that is. An absolute taken from an absolute leaves a relative, shown by 0; from a relative it
+-- can't be taken.
 unfoldable pub quantityDifference : Quantity → Quantity → Answer Quantity
 quantityDifference (relative p x) (relative q y) = ofOnePair p q (relative p (less x y (x .display)))
 quantityDifference (absolute p x) (relative q y) = ofOnePair p q (absolute p (less x y (x .display)))

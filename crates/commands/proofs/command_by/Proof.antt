@@ -29,11 +29,19 @@ array-copy-out-status c = search needs
 
 add-judge : tie.Need-add-judge
 unfolding limit
-add-judge c = let l = command-frame _ _ _ _ (c .before .before .before .before .before .before .before .before .before .before .read .ensures .0) (c .before .before .before .before .before .before .before .before .before .before .read .ensures .1) _ (c .before .before .before .before .before .said2 .given .1) 5 in record { fits = omega arith }
+add-judge c =
+    let read = c .before .before .before .before .before .before .before .before .before .before .read .ensures in
+    let found = c .before .before .before .before .before .said2 .given .1 in
+    let within = command-frame _ _ _ _ (read .0) (read .1) _ found 5 in
+    record { fits = omega arith }
 
 judge-requires : tie.Need-judge-requires
 unfolding limit
-judge-requires c κs = let l = command-frame _ _ _ _ (c .before .before .before .before .before .before .before .before .before .before .before .read .ensures .0) (c .before .before .before .before .before .before .before .before .before .before .before .read .ensures .1) _ (c .before .before .before .before .before .before .said2 .given .1) 3 in (omega arith, command-few _ _ _ _ (c .before .before .before .before .before .before .before .before .before .before .before .read .ensures .0) (c .before .before .before .before .before .before .before .before .before .before .before .read .ensures .1) _ (c .before .before .before .before .before .before .said2 .given .1), command-room _ _ _ _ (c .before .before .before .before .before .before .before .before .before .before .before .read .ensures .0) (c .before .before .before .before .before .before .before .before .before .before .before .read .ensures .1) _ (c .before .before .before .before .before .before .said2 .given .1))
+judge-requires c κs =
+    let read = c .before .before .before .before .before .before .before .before .before .before .before .read .ensures in
+    let found = c .before .before .before .before .before .before .said2 .given .1 in
+    let within = command-frame _ _ _ _ (read .0) (read .1) _ found 3 in
+    (omega arith, command-few _ _ _ _ (read .0) (read .1) _ found, command-room _ _ _ _ (read .0) (read .1) _ found)
 
 enum-known-r : tie.Need-enum-known-r
 enum-known-r c = search needs
@@ -42,25 +50,40 @@ enum-known-k : tie.Need-enum-known-k
 enum-known-k c = search needs
 
 named-requires : tie.Need-named-requires
-named-requires c κs = command-told _ _ _ _ (c .before .before .before .before .before .before .before .before .before .before .before .before .before .before .before .read .ensures .0) (c .before .before .before .before .before .before .before .before .before .before .before .before .before .before .before .read .ensures .1) _ (c .before .before .before .before .before .before .before .before .before .before .said2 .given .1) _ (command-judged _ _ _ _ (c .before .before .before .before .before .before .before .before .before .before .before .before .before .before .before .read .ensures .0) (c .before .before .before .before .before .before .before .before .before .before .before .before .before .before .before .read .ensures .1) _ (c .before .before .before .before .before .before .before .before .before .before .said2 .given .1) _ (λ fs h. sym (ap judged (c .before .k .given .1)) ∙ c .before .before .before .judge .ensures fs h))
+named-requires c κs =
+    let read = c .before .before .before .before .before .before .before .before .before .before .before .before .before .before .before .read .ensures in
+    let found = c .before .before .before .before .before .before .before .before .before .before .said2 .given .1 in
+    command-told _ _ _
+    (command-judged _ _ _ _ (read .0) (read .1) _ found _
+    (λ fs h. sym (ap judged (c .before .k .given .1)) ∙ c .before .before .before .judge .ensures fs h))
 
 same-length : tie.Need-same-length
 same-length c = search needs
 
 returns : tie.Need-returns
-returns c = command-refused _ _ _ _ (c .before .before .before .before .before .before .read .ensures .0) (c .before .before .before .before .before .before .read .ensures .1) _ _ (c .before .said .given .1)
+returns c =
+    let read = c .before .before .before .before .before .before .read .ensures in command-refused _ _ _ _ (read .0) (read .1) _ _ (c .before .said .given .1)
 
 same-length-2 : tie.Need-same-length-2
 same-length-2 c = search needs
 
 returns-2 : tie.Need-returns-2
-returns-2 c = command-judged _ _ _ _ (c .before .before .before .before .before .before .before .before .before .before .before .before .before .before .before .read .ensures .0) (c .before .before .before .before .before .before .before .before .before .before .before .before .before .before .before .read .ensures .1) _ (c .before .before .before .before .before .before .before .before .before .before .said2 .given .1) _ (λ fs h. sym (ap judged (c .before .r .given .1)) ∙ c .before .before .before .judge .ensures fs h)
+returns-2 c =
+    let read = c .before .before .before .before .before .before .before .before .before .before .before .before .before .before .before .read .ensures in
+    let found = c .before .before .before .before .before .before .before .before .before .before .said2 .given .1 in
+    command-judged _ _ _ _ (read .0) (read .1) _ found _
+    (λ fs h. sym (ap judged (c .before .r .given .1)) ∙ c .before .before .before .judge .ensures fs h)
 
 same-length-3 : tie.Need-same-length-3
 same-length-3 c = search needs
 
 returns-3 : tie.Need-returns-3
-returns-3 c = ap fine (c .named .ensures) ∙ command-judged _ _ _ _ (c .before .before .before .before .before .before .before .before .before .before .before .before .before .before .before .before .read .ensures .0) (c .before .before .before .before .before .before .before .before .before .before .before .before .before .before .before .before .read .ensures .1) _ (c .before .before .before .before .before .before .before .before .before .before .before .said2 .given .1) _ (λ fs h. sym (ap judged (c .before .before .k .given .1)) ∙ c .before .before .before .before .judge .ensures fs h)
+returns-3 c =
+    let read = c .before .before .before .before .before .before .before .before .before .before .before .before .before .before .before .before .read .ensures in
+    let found = c .before .before .before .before .before .before .before .before .before .before .before .said2 .given .1 in
+    ap fine (c .named .ensures)
+    ∙ command-judged _ _ _ _ (read .0) (read .1) _ found _
+    (λ fs h. sym (ap judged (c .before .before .k .given .1)) ∙ c .before .before .before .before .judge .ensures fs h)
 
 pub command-by-spec : {M : Type 1} → statement M
 command-by-spec =
