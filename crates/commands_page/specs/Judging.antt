@@ -4,7 +4,8 @@ use mathlib.Core.Bool.{Bool, true, false, cond, _&&_, _||_}
 use mathlib.Core.List.{List, [], _∷_}
 use lib.ListN.{length, getD}
 use lib.Dec.{leb, ltb, eqb}
-use Rattle.sim0mq.specs.Answer.{Answer, fine, _>>=_, _>>_, guard, byte, big, notNegative}
+use mathlib.Core.Path.{_≡_, refl}
+use Rattle.sim0mq.specs.Answer.{Answer, fine, refused, _>>=_, _>>_, guard, byte, big, notNegative}
 use Rattle.sim0mq.specs.Field.{Field}
 use Rattle.sim0mq.specs.Header.{Frame}
 use Rattle.sim0mq.specs.Message.{noTable, reading}
@@ -137,3 +138,22 @@ unfoldable pub commanded : List ℕ → Answer ℕ
 commanded s = do
   m ← reading noTable s
   commandOf s (looks (m .frames)) (m .fields)
+
+-- The order on the smallest cases: of two wrong codes the earlier is told, a wrong number of fields before a wrong code,
+-- and FM.2's sixth field before its number of pairs. A byte is a field that MC.1 and FM.2 take nowhere.
+abbrev aByte : ℕ → Field
+aByte place = record { code = 0; place = place; first = place + 1; size = 1; marked = 0; values = 1 }
+
+pub earlier-first : each [] (rowAt 2) 22 0 (aByte 60 ∷ aByte 62 ∷ []) ≡ refused 22 60
+unfolding page rowAt codeTaken wantIn passes each
+earlier-first = refl
+
+pub number-before-codes : fieldsRight [] 25 2 (aByte 60 ∷ []) ≡ refused 21 25
+unfolding page rowAt numberRight fieldsRight codeTaken wantIn passes each
+number-before-codes = refl
+
+pub sixth-before-pairs :
+    numberRight [] 25 (rowAt 4) (aByte 60 ∷ aByte 62 ∷ aByte 64 ∷ aByte 66 ∷ aByte 68 ∷ aByte 70 ∷ aByte 72 ∷ [])
+    ≡ refused 22 70
+unfolding page rowAt numberRight turnsRight codeTaken wantIn
+sixth-before-pairs = refl
