@@ -1,14 +1,16 @@
 -- The sum and the difference of two scalars (02, Ticket 12).
 use Prim.Native.Nat.{ℕ}
+use mathlib.Core.Path.{_≡_, refl}
 use mathlib.Core.Bool.{Bool, true, false, _&&_}
 use lib.Ieee.{Float, nan, inf, fin}
 use Rattle.sim0mq.specs.Answer.{Answer, fine, refused, _>>=_, _>>_, guard}
-use Rattle.sim0mq.specs.Mark.{kindOf}
+use Rattle.sim0mq.specs.Mark.{kindOf, displayTaken}
+use Rattle.kinds.specs.declared.Mark.{Mark}
 use Rattle.kinds.specs.declared.Scalar.{Scalar}
 use Rattle.kinds.specs.declared.Scalar.the-variants.{Byte, Short, Int, Long, Float as Single, Double, Boolean, Char8, Char16, FloatUnit, DoubleUnit, NotNumber}
 use Rattle.encoding.specs.Scalars.{markTaken}
 use Rattle.sums_quantities.specs.declared.shown.Shown.{Shown}
-use Rattle.sums_pairs.specs.Pairs.{Quantity, unitOf, numberOf, quantityAt, quantitySum, quantityDifference}
+use Rattle.sums_pairs.specs.Pairs.{Quantity, unitOf, numberOf, quantityIn, quantityAt, quantitySum, quantityDifference}
 
 -- A double with its unit: the unit type, and the number with its display code.
 pub record Measured : Type 0 where
@@ -67,3 +69,16 @@ sumOf = answer quantitySum
 
 abbrev pub differenceOf : Scalar → Scalar → Answer Scalar
 differenceOf = answer quantityDifference
+
+-- The order on the smallest cases: 17 of the second operand comes before 24 of the first, which is a speed and of no
+-- pair; and 24 of two positions before 25, though they hold a NaN.
+abbrev marked : ℕ → Mark
+marked u = record { unit = u; currency = 0; display = 0 }
+
+pub seventeen-first : (x : Float) → sumOf (DoubleUnit x (marked 22)) (Double x) ≡ refused 17 0
+unfolding answer measured markTaken kindOf displayTaken
+seventeen-first x = refl
+
+pub twenty-four-next : sumOf (DoubleUnit nan (marked 17)) (DoubleUnit nan (marked 17)) ≡ refused 24 0
+unfolding answer measured markTaken kindOf displayTaken quantityIn quantitySum
+twenty-four-next = refl
