@@ -1,6 +1,7 @@
 /*
- * Reads the example message of the Sim0MQ manual (section 2.3.6), asks for its value, blanks it, and writes it anew: the ids are taken from the message,
- * its one field is added as the scalar that was asked for, and the two messages are compared. Compiles as C11 and as C++17.
+ * Reads the example message of the Sim0MQ manual (section 2.3.6), asks for its value, blanks it, and writes it anew:
+ * the ids are taken from the message, its one field is added as the scalar that was asked for, and the two messages are
+ * compared. Compiles as C11 and as C++17.
  */
 #include "sim0mq.h"
 
@@ -8,7 +9,8 @@
 #include <stdio.h>
 #include <string.h>
 
-/* The message: run IDVV.14.2, sender MC.1, receiver MM1.4, type DSOL.3, number 124, status 2, one field, the double 0.2. */
+/* The message: run IDVV.14.2, sender MC.1, receiver MM1.4, type DSOL.3, number 124, status 2, one field, the double
+   0.2. */
 static const uint8_t MESSAGE[77] = {
     0x09, 0x00, 0x00, 0x00, 0x05, 0x53, 0x49, 0x4D, 0x30, 0x31, 0x09, 0x00, 0x00, 0x00, 0x09, 0x49,
     0x44, 0x56, 0x56, 0x2E, 0x31, 0x34, 0x2E, 0x32, 0x09, 0x00, 0x00, 0x00, 0x04, 0x4D, 0x43, 0x2E,
@@ -45,7 +47,8 @@ static void blanked(void)
     printf("blanked: %" PRIu64 " bytes, %zu of them differ\n", answer[2], differ);
 }
 
-/* Writes a message with the ids, the count type and the one field of a message that was read; whether all was granted. */
+/* Writes a message with the ids, the count type and the one field of a message that was read; whether all was
+   granted. */
 static int rewritten(const uint64_t *read, uint8_t *out, size_t room, uint64_t *length)
 {
     uint64_t value[SIM0MQ_VALUE_NUMBERS];

@@ -1,10 +1,11 @@
 /*
  * Sim0MQ typed messages (big-endian, manual version 1.5): reading, asking, blanking and writing.
  *
- * Every call is proved to end, to be safe, and to answer exactly as stated here, whatever bytes and numbers it is handed. None has a precondition but
- * C's own: a pointer is aligned as its type asks, stands with the number of elements behind it, and the buffers of one call do not overlap. An empty
- * buffer has length 0, and its pointer, which is not followed, is still not null, since what is proved speaks of buffers that have a place. Nothing is
- * kept between calls, so calls may run side by side.
+ * Every call is proved to end, to be safe, and to answer exactly as stated here, whatever bytes and numbers it is
+ * handed. None has a precondition but C's own: a pointer is aligned as its type asks, stands with the number of
+ * elements behind it, and the buffers of one call do not overlap. An empty buffer has length 0, and its pointer, which
+ * is not followed, is still not null, since what is proved speaks of buffers that have a place. Nothing is kept between
+ * calls, so calls may run side by side.
  *
  * Answers are numbers in `answer`, which the caller lends. A call returns
  *
@@ -12,8 +13,9 @@
  *     1 to 31    refused; the number is one of the table below
  *     255        `answer` is too short for the call's numbers (SIM0MQ_..._NUMBERS); nothing at all is written
  *
- * answer[0] is the returned number, and answer[1] the place of the fault, 0 where the call is granted. On a refusal the call's other numbers are 0
- * (but the writer's state, see there), and every other buffer is as it was. Numbers of `answer` past the call's own stay as they were.
+ * answer[0] is the returned number, and answer[1] the place of the fault, 0 where the call is granted. On a refusal the
+ * call's other numbers are 0 (but the writer's state, see there), and every other buffer is as it was. Numbers of
+ * `answer` past the call's own stay as they were.
  *
  *     No.  When                                                        Place
  *     1    the bytes end before the item being read                    their length
@@ -103,7 +105,8 @@ extern "C" {
  * declared field; the fields' (1, 5, 9 to 12, 19); 13. Refused, the table is as it was. A table of SIM0MQ_MOST_FIELDS *
  * SIM0MQ_ROW_NUMBERS numbers is enough for every message.
  */
-uint32_t sim0mq_read(const uint8_t *message, size_t message_len, uint32_t *table, size_t table_len, uint64_t *answer, size_t answer_len);
+uint32_t sim0mq_read(const uint8_t *message, size_t message_len, uint32_t *table, size_t table_len, uint64_t *answer,
+                     size_t answer_len);
 
 /*
  * Judges a message as reading does, with no table: the same numbers, and no refusal 14.
@@ -114,8 +117,8 @@ uint32_t sim0mq_judge(const uint8_t *message, size_t message_len, uint64_t *answ
  * The value of field k, counted from 0, where it is a scalar (codes 0 to 8, 25 and 26).
  *
  *     answer[2]    the kind, SIM0MQ_BYTE to SIM0MQ_NOT_NUMBER
- *     answer[3]    the bits: two's complement of the value's own width (8, 16, 32 or 64), IEEE 754's bits, 1 for true, the character; where the bits
- *                  are a NaN (SIM0MQ_NOT_NUMBER), the field's code
+ *     answer[3]    the bits: two's complement of the value's own width (8, 16, 32 or 64), IEEE 754's bits, 1 for true,
+ *                  the character; where the bits are a NaN (SIM0MQ_NOT_NUMBER), the field's code
  *     answer[4]    the mark's unit type; 0 where the value has no mark
  *     answer[5]    the mark's currency code; 0 where it has none
  *     answer[6]    the mark's display code; 0 where it has none
@@ -125,8 +128,8 @@ uint32_t sim0mq_judge(const uint8_t *message, size_t message_len, uint64_t *answ
 uint32_t sim0mq_value(const uint8_t *message, size_t message_len, uint64_t k, uint64_t *answer, size_t answer_len);
 
 /*
- * Where the value bytes of field k stand in the message, for a field of any code. Each question reads the whole message afresh; the table of sim0mq_read
- * has these numbers of every field.
+ * Where the value bytes of field k stand in the message, for a field of any code. Each question reads the whole message
+ * afresh; the table of sim0mq_read has these numbers of every field.
  *
  *     answer[2]    the place of the first value byte
  *     answer[3]    the number of value bytes
@@ -142,7 +145,8 @@ uint32_t sim0mq_view(const uint8_t *message, size_t message_len, uint64_t k, uin
  *
  * Refusals: 1 to 13, then 14 where `out` is shorter than the message. Refused, `out` is as it was.
  */
-uint32_t sim0mq_blank(const uint8_t *message, size_t message_len, uint8_t *out, size_t out_len, uint64_t *answer, size_t answer_len);
+uint32_t sim0mq_blank(const uint8_t *message, size_t message_len, uint8_t *out, size_t out_len, uint64_t *answer,
+                      size_t answer_len);
 
 /*
  * The writer. Its state is four numbers, which each call takes and hands back:
@@ -153,14 +157,15 @@ uint32_t sim0mq_blank(const uint8_t *message, size_t message_len, uint8_t *out, 
  *     answer[5]               added
  *     answer[6]               closed, 0 or 1
  *
- * A refused adding or closing hands back the state that it took, and a refused opening a closed one with every number 0; `out` is then as it was. The
- * finished message is the first answer[2] bytes of `out`, where each call takes the state last handed back and one same buffer that nothing else
- * writes. `out` past the message stays. In `closed` 0 is open and any other number closed.
+ * A refused adding or closing hands back the state that it took, and a refused opening a closed one with every number
+ * 0; `out` is then as it was. The finished message is the first answer[2] bytes of `out`, where each call takes the
+ * state last handed back and one same buffer that nothing else writes. `out` past the message stays. In `closed` 0 is
+ * open and any other number closed.
  *
- * Opening writes the header. `ids` is four encoded frames in one piece: run, sender, receiver, message type. Where `stated` is 0 the type code of the
- * declared count is 2, a 32-bit int, and else `kind`; the short form of the manual's example states 1.
- * Refusals, in this order: 1, 4, 5 and 13 in the ids (places within them), 6 status, 4 count type, 7 count, 8, 14. A 4 at place 0 is the first id's or
- * the count type's.
+ * Opening writes the header. `ids` is four encoded frames in one piece: run, sender, receiver, message type. Where
+ * `stated` is 0 the type code of the declared count is 2, a 32-bit int, and else `kind`; the short form of the manual's
+ * example states 1. Refusals, in this order: 1, 4, 5 and 13 in the ids (places within them), 6 status, 4 count type, 7
+ * count, 8, 14. A 4 at place 0 is the first id's or the count type's.
  */
 uint32_t sim0mq_open(const uint8_t *ids, size_t ids_len, int64_t number, uint8_t status, uint64_t fields, uint8_t stated, uint8_t kind,
                      uint8_t *out, size_t out_len, uint64_t *answer, size_t answer_len);
@@ -174,9 +179,9 @@ uint32_t sim0mq_add(uint64_t written, uint64_t declared, uint64_t added, uint8_t
                     uint8_t *out, size_t out_len, uint64_t *answer, size_t answer_len);
 
 /*
- * Adds a scalar: kind, bits and mark as sim0mq_value answers them. A value with no mark takes no heed of unit, currency and display.
- * Refusals: 15 as in adding; 17 where the kind is 11 or above, the bits are more than the kind's width, they are a NaN's, or the mark is one that
- * reading would refuse or never gives; 8; 14.
+ * Adds a scalar: kind, bits and mark as sim0mq_value answers them. A value with no mark takes no heed of unit, currency
+ * and display. Refusals: 15 as in adding; 17 where the kind is 11 or above, the bits are more than the kind's width,
+ * they are a NaN's, or the mark is one that reading would refuse or never gives; 8; 14.
  */
 uint32_t sim0mq_add_scalar(uint64_t written, uint64_t declared, uint64_t added, uint8_t closed, uint8_t kind, uint64_t bits, uint8_t unit,
                            uint16_t currency, uint8_t display, uint8_t *out, size_t out_len, uint64_t *answer, size_t answer_len);
@@ -186,7 +191,8 @@ uint32_t sim0mq_add_scalar(uint64_t written, uint64_t declared, uint64_t added, 
  * Refusals: 15 where the state is closed, its written length is above 65,536, or not exactly the declared number of
  * fields was added.
  */
-uint32_t sim0mq_close(uint64_t written, uint64_t declared, uint64_t added, uint8_t closed, uint64_t *answer, size_t answer_len);
+uint32_t sim0mq_close(uint64_t written, uint64_t declared, uint64_t added, uint8_t closed, uint64_t *answer,
+                      size_t answer_len);
 
 #ifdef __cplusplus
 }

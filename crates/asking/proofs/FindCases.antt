@@ -18,7 +18,7 @@ use Rattle.payload.specs.Parts.{payloadSteps}
 use Rattle.payload.specs.Kept.{keptOf}
 use Rattle.parts.proofs.KeptCases.{rows-within, kept-before, kept-here, kept-full}
 use Rattle.payload.proofs.KeptLaws.{payload-many, front-accepted}
-use Rattle.front.specs.Front.{opening}
+use Rattle.front.specs.Front.{frontOf}
 use Rattle.front.proofs.FrontCases.{reading-closed, open-within, open-refused, open-accepted}
 use Rattle.asking.specs.Asking.{nth, asked, fieldIn}
 use Rattle.asking.proofs.AskLaws.{asked-refused, asked-nth, nth-past, nth-finds}
@@ -62,10 +62,10 @@ row-tells f = refl
 
 -- asking is reading, and then the field
 module _ (s : List ℕ) (k : ℕ) where
-  pub ask-closed : (r p : ℕ) → opening noTable s ≡ refused r p → refused r p ≡ asked s k
+  pub ask-closed : (r p : ℕ) → frontOf noTable s ≡ refused r p → refused r p ≡ asked s k
   ask-closed r p e = sym (asked-refused s k r p (reading-closed noTable s r p e))
 
-  module _ (h : Header) (a : opening noTable s ≡ fine h) (n next : ℕ) (p : h .fields ≡ n) (q : h .next ≡ next) where
+  module _ (h : Header) (a : frontOf noTable s ≡ fine h) (n next : ℕ) (p : h .fields ≡ n) (q : h .next ≡ next) where
     pub ask-refused : (r w : ℕ) → payloadSteps s next n ≡ refused r w → refused r w ≡ asked s k
     ask-refused r w e = sym (asked-refused s k r w (open-refused noTable s h a n next p q r w e))
 

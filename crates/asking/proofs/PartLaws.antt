@@ -1,4 +1,5 @@
--- A field that is asked for is one of the fields that the message is cut into, so its parts stand in the message at its place.
+-- A field that is asked for is one of the fields that the message is cut into, so its parts stand in the message at its
+-- place.
 use Prim.Native.Nat.{ℕ, zero, suc, _+_, _≤_}
 use mathlib.Core.Path.{_≡_, refl, ap, sym, _∙_, subst}
 use mathlib.Core.List.{List, [], _∷_, _++_, flatMap}

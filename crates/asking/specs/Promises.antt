@@ -8,10 +8,11 @@ use lib.ListN.{length, take, drop}
 use Rattle.sim0mq.specs.Answer.{fine, refused}
 use Rattle.sim0mq.specs.Field.{Field}
 use Rattle.sim0mq.specs.Table.{row, rowSize, rows}
-use Rattle.sim0mq.specs.Message.{noTable, Reading, reading}
+use Rattle.sim0mq.specs.Message.{Lent, noTable, Reading, reading}
 use Rattle.asking.specs.Asking.{asked, viewOf}
 
--- Asking for field k is refused as reading is; where reading accepts, it is refused with 16 at 0 exactly past the last field, and else answered.
+-- Asking for field k is refused as reading is; where reading accepts, it is refused with 16 at 0 exactly past the last
+-- field, and else answered.
 pub record AsksAsItReads (s : List ℕ) (k : ℕ) : Type 0 where
   pub refuses : (n p : ℕ) → reading noTable s ≡ refused n p → asked s k ≡ refused n p
   pub past : (m : Reading) → reading noTable s ≡ fine m → (asked s k ≡ refused 16 0) ↔ (length (m .fields) ≤ k)
@@ -26,6 +27,9 @@ pub record IsRow (s : List ℕ) (k : ℕ) (m : Reading) (f : Field) : Type 0 whe
   pub numbers : take rowSize (drop (rowSize * k) (rows (m .fields))) ≡ row f
   pub bytes : length (viewOf s (fine f)) ≡ f .size
 
--- The field asked for is row k of what reading stores, so its view begins and ends where that row says.
+-- The field asked for is row k of what reading, with any table that is long enough, stores, so its view begins and ends
+-- where that row says.
 abbrev pub View-is-row-k : Type 0
-View-is-row-k = (s : List ℕ) (k : ℕ) (m : Reading) (f : Field) → reading noTable s ≡ fine m → asked s k ≡ fine f → IsRow s k m f
+View-is-row-k =
+    (lent : Lent) (s : List ℕ) (k : ℕ) (m : Reading) (f : Field) → reading lent s ≡ fine m → asked s k ≡ fine f
+    → IsRow s k m f

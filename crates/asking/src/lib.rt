@@ -29,7 +29,8 @@ fn field_in(row: &[u32; ROW]) -> Field
     }
 }
 
-// The field k of the message: what is known of it, with places in the message; or the refusal, which is reading's with no table, or 16.
+// The field k of the message: what is known of it, with places in the message; or the refusal, which is reading's with
+// no table, or 16.
 pub fn ask(message: &[u8], k: usize) -> Fielded
     ensures { λ r. ⌜ fielded r ≡ asked (now (message .entry)) k ⌝ }
 {

@@ -1,4 +1,5 @@
-// Writes the blanked copy of the message on standard input, or the line that `list` prints where the message is refused.
+// Writes the blanked copy of the message on standard input, or the line that `list` prints where the message is
+// refused.
 use input::Input;
 use libc::STDERR_FILENO;
 use libc::STDOUT_FILENO;
@@ -31,7 +32,8 @@ fn print(message: &[u8]) {
     }
 }
 
-// Blanks standard input, of which one byte more than a message may have is read; a line to standard error where it cannot be read.
+// Blanks standard input, of which one byte more than a message may have is read; a line to standard error where it
+// cannot be read.
 fn main() {
     let mut bytes = [0u8; LIMIT + 1];
     match input::fill(&mut bytes) {

@@ -1,4 +1,5 @@
--- Blanking one field after the other blanks them all, since each begins where the one before ends, and the last ends with the message; what stands past the message is not touched.
+-- Blanking one field after the other blanks them all, since each begins where the one before ends, and the last ends
+-- with the message; what stands past the message is not touched.
 use Prim.Native.Nat.{ℕ, _+_, _-_, _*_, _≤_, _<_}
 use mathlib.Core.Path.{_≡_, refl, ap, ap₂, sym, _∙_, subst}
 use mathlib.Core.List.{List, [], _∷_, _++_, append-assoc, map}
@@ -7,7 +8,7 @@ use lib.ListN.{length, getD, take, drop, replicate, length-append, length-take, 
 use lib.Seq.{take-append-le, drop-append-le, drop-drop, getD-drop}
 use lib.Dec.{leb}
 use borrow.Author.Tests.{le-leb, lt-leb, leb-true}
-use Rattle.sim0mq.specs.Answer.{Answer, fine, refused, partAt}
+use Rattle.sim0mq.specs.Answer.{Answer, fine, refused, partAt, lengthOf}
 use Rattle.sim0mq.specs.Field.{Field, after}
 use Rattle.sim0mq.specs.Header.{Header}
 use Rattle.sim0mq.specs.Payload.{payloadFrom, payload, moved}
@@ -16,7 +17,7 @@ use Rattle.sim0mq.specs.Table.{row, rows, rowSize, stored, placed}
 use Rattle.sim0mq.specs.Blank.{zeroed, blanked, blanking, outputAfter}
 use Rattle.sim0mq.specs.Allowed.{Each, none, more}
 use Rattle.sim0mq.proofs.BlankLaws.{Inside, inside-to, zeroed-long, blanked-long}
-use Rattle.sim0mq.proofs.Answers.{fine-eq, bind-fine, guarded}
+use Rattle.sim0mq.proofs.Answers.{not-fine, fine-eq, bind-fine, guarded}
 use Rattle.sim0mq.proofs.Demand3.{copy-is-blank}
 use Rattle.buffers.specs.Placing.{putIn, clearedIn}
 use Rattle.payload.specs.Parts.{payloadSteps}
@@ -24,9 +25,9 @@ use Rattle.payload.specs.Kept.{keptOf}
 use Rattle.parts.proofs.PartCases.{field-goes}
 use Rattle.payload.proofs.PayloadCases.{at-stopped, at-taken}
 use Rattle.payload.proofs.KeptLaws.{payload-many, taken-more, taken-none, kept-rows}
-use Rattle.front.specs.Front.{opening}
+use Rattle.front.specs.Front.{frontOf}
 use Rattle.front.proofs.FrontCases.{reading-closed, open-within, open-reading}
-use Rattle.blanking.specs.Blanking.{lengthOf, copying, taken, fieldsOf, Copyable, Blankable}
+use Rattle.blanking.specs.Blanking.{copying, taken, fieldsOf, Copyable, Blankable}
 use Rattle.blanking.proofs.TurnLaws.{placed-past, placed-whole, placed-turn}
 
 -- fields of s from `at` on, one after the other up to its end
@@ -243,7 +244,7 @@ module _ (room : ℕ) (s : List ℕ) (next n : ℕ) where
       pub copy-made : (out front copy : List ℕ) → length out ≡ room → length s ≤ room → front ≡ putIn out 0 (take next s)
           → copy ≡ blanked (placed front next (drop next s)) (fieldsOf s next n)
           → (fine (length s) ≡ lengthOf (copying room s next n)) × (copy ≡ outputAfter out (copying room s next n))
-      unfolding stored lengthOf outputAfter
+      unfolding stored outputAfter
       copy-made out front copy r l c v =
           let fs = fieldsOf s next n in
           let within = h .within in
@@ -257,11 +258,11 @@ module _ (room : ℕ) (s : List ℕ) (next n : ℕ) where
 
 -- blanking is what stands before the payload, and then that copy
 module _ (room : ℕ) (s : List ℕ) where
-  pub blank-closed : (k p : ℕ) → opening noTable s ≡ refused k p → blanking room s ≡ refused k p
+  pub blank-closed : (k p : ℕ) → frontOf noTable s ≡ refused k p → blanking room s ≡ refused k p
   unfolding blanking
   blank-closed k p e = simp (reading-closed noTable s k p e)
 
-  module _ (h : Header) (a : opening noTable s ≡ fine h) (n next : ℕ) (p : h .fields ≡ n) (q : h .next ≡ next) where
+  module _ (h : Header) (a : frontOf noTable s ≡ fine h) (n next : ℕ) (p : h .fields ≡ n) (q : h .next ≡ next) where
     pub blank-copyable : Copyable s next n (256 * rowSize)
     unfolding rowSize
     blank-copyable =
@@ -277,15 +278,20 @@ module _ (room : ℕ) (s : List ℕ) where
         go (fine fs) e = simp (open-reading noTable s h a n next p q, e, q)
         go (refused k w) e = simp (open-reading noTable s h a n next p q, e)
 
+-- a length was answered, so bytes were
+answered : (a : Answer (List ℕ)) {n : ℕ} → lengthOf a ≡ fine n → (l : List ℕ) × (a ≡ fine l) × (length l ≡ n)
+answered (fine l) e = (l, refl, fine-eq e)
+answered (refused k p) e = absurd (not-fine e)
+
 -- a copy that was made fits in the room that there was for it
 pub copy-fits : (room : ℕ) (s : List ℕ) (n : ℕ) → lengthOf (blanking room s) ≡ fine n → n ≤ room
-unfolding lengthOf blanking
+unfolding blanking
 copy-fits room s n e =
-    let a = bind-fine (blanking room s) _ e in
+    let a = answered (blanking room s) e in
     let b = bind-fine (reading noTable s) _ (a .1) in
     let c = guarded (leb (length s) room) 14 0 _ (b .2) in
-    let long = copy-is-blank s (b .0) (b .1) .long in
+    let long = copy-is-blank noTable s (b .0) (b .1) .long in
     let same = ap length (fine-eq (c .1)) in
-    let told = fine-eq (a .2) in
+    let counted = a .2 in
     let fits = leb-true (length s) room (c .0) in
     omega arith

@@ -1,4 +1,5 @@
--- Zeros placed over a part of a text are as good as zeros placed instead of it; so a field's values need not be copied to be blanked.
+-- Zeros placed over a part of a text are as good as zeros placed instead of it; so a field's values need not be copied
+-- to be blanked.
 use Prim.Native.Nat.{ℕ, _+_, _-_, _≤_}
 use mathlib.Core.Path.{_≡_, ap, ap₂, sym, _∙_}
 use mathlib.Core.List.{List, _++_, append-assoc}

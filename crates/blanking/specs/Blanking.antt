@@ -11,13 +11,8 @@ use Rattle.sim0mq.specs.Table.{rows, rowSize}
 use Rattle.sim0mq.specs.Message.{limit}
 use Rattle.sim0mq.specs.Blank.{blanked}
 
--- The length of the copy, or the refusal.
-unfoldable pub lengthOf : Answer (List ℕ) → Answer ℕ
-lengthOf a = do
-  copy ← a
-  fine (length copy)
-
--- The blanked copy of the message s, whose payload of n fields begins at `next`: the payload's refusals, then the room (14).
+-- The blanked copy of the message s, whose payload of n fields begins at `next`: the payload's refusals, then the room
+-- (14).
 unfoldable pub copying : ℕ → List ℕ → ℕ → ℕ → Answer (List ℕ)
 copying room s next n = do
   fs ← partAt next (payload (drop next s) n)

@@ -1,10 +1,12 @@
-// Blanking: a copy of a message that has zero in every payload value byte, so that it shows how the message is built and nothing of what it says.
+// Blanking: a copy of a message that has zero in every payload value byte, so that it shows how the message is built
+// and nothing of what it says.
 ghost use mathlib.Core.Path.{_≡_};
 ghost use Prim.Native.Nat.{_+_, _*_, _≤_};
 ghost use lib.ListN.{length, drop};
+ghost use Rattle.sim0mq.specs.Answer.{lengthOf};
 ghost use Rattle.sim0mq.specs.Blank.{blanked, blanking, outputAfter};
-ghost use Rattle.sim0mq.specs.Views.{judged as told};
-ghost use Rattle.blanking.specs.Blanking.{lengthOf, copying, fieldsOf, Copyable, Blankable};
+ghost use Rattle.sim0mq.specs.Views.{judged};
+ghost use Rattle.blanking.specs.Blanking.{copying, fieldsOf, Copyable, Blankable};
 ghost use Rattle.sim0mq.specs.Table.{placed, rowSize};
 ghost use Rattle.buffers.specs.Placing.{putIn, clearedIn};
 use buffers::clear;
@@ -20,7 +22,10 @@ use sim0mq::ROW;
 // The bytes of `text` in `out` from `at` on, and zero in the n bytes after them.
 fn renew(text: &[u8], out: &mut [u8], at: usize, n: usize)
     requires { ⌜ at + length (now text) + n ≤ length (now out) ⌝ }
-    ensures { λ _. ⌜ now (out .exit) ≡ clearedIn (putIn (now (out .entry)) at (now (text .entry))) (at + length (now (text .entry))) n ⌝ }
+    ensures { λ _. ⌜
+        now (out .exit)
+        ≡ clearedIn (putIn (now (out .entry)) at (now (text .entry))) (at + length (now (text .entry))) n
+        ⌝ }
 {
     if text.len() == 1 {
         out[at] = text[0];
@@ -35,11 +40,15 @@ fn renew(text: &[u8], out: &mut [u8], at: usize, n: usize)
     clear(out, at + text.len(), n);
 }
 
-// The copy of an accepted message in `out`, from `next` on, where its payload of n fields begins, whose rows are kept: of each field its code, counts and marks,
-// and zero for its value bytes, which are not read.
+// The copy of an accepted message in `out`, from `next` on, where its payload of n fields begins, whose rows are kept:
+// of each field its code, counts and marks, and zero for its value bytes, which are not read.
 fn blank_fields(message: &[u8], next: usize, n: usize, kept: &[u32], out: &mut [u8])
     requires { ⌜ Blankable (now message) next n (now kept) (now out) ⌝ }
-    ensures { λ _. ⌜ now (out .exit) ≡ blanked (placed (now (out .entry)) next (drop next (now (message .entry)))) (fieldsOf (now (message .entry)) next n) ⌝ }
+    ensures { λ _. ⌜
+        now (out .exit)
+        ≡ blanked (placed (now (out .entry)) next (drop next (now (message .entry))))
+        (fieldsOf (now (message .entry)) next n)
+        ⌝ }
 {
     let mut at = next;
     let mut k: usize = 0;
@@ -52,12 +61,15 @@ fn blank_fields(message: &[u8], next: usize, n: usize, kept: &[u32], out: &mut [
     }
 }
 
-// Judges the payload of n fields that begins at `next`, and makes the copy once it is accepted and there is room for it: the copy's length, or the refusal.
-// `kept` holds the fields' rows.
+// Judges the payload of n fields that begins at `next`, and makes the copy once it is accepted and there is room for
+// it: the copy's length, or the refusal. `kept` holds the fields' rows.
 fn copied_by(message: &[u8], next: usize, n: usize, kept: &mut [u32], out: &mut [u8]) -> Judged
     requires { ⌜ Copyable (now message) next n (length (now kept)) ⌝ }
-    ensures answer { λ r. ⌜ told r ≡ lengthOf (copying (length (now (out .entry))) (now (message .entry)) next n) ⌝ }
-    ensures copied { λ _. ⌜ now (out .exit) ≡ outputAfter (now (out .entry)) (copying (length (now (out .entry))) (now (message .entry)) next n) ⌝ }
+    ensures answer { λ r. ⌜ judged r ≡ lengthOf (copying (length (now (out .entry))) (now (message .entry)) next n) ⌝ }
+    ensures copied { λ _. ⌜
+        now (out .exit)
+        ≡ outputAfter (now (out .entry)) (copying (length (now (out .entry))) (now (message .entry)) next n)
+        ⌝ }
 {
     match payload(message, next, n, 0, kept) {
         Judged::Refused(r) => Judged::Refused(r),
@@ -72,11 +84,15 @@ fn copied_by(message: &[u8], next: usize, n: usize, kept: &mut [u32], out: &mut 
     }
 }
 
-// Judges the payload of n fields that begins at `next`, and makes the copy once it is accepted and there is room for it: the copy's length, or the refusal.
+// Judges the payload of n fields that begins at `next`, and makes the copy once it is accepted and there is room for
+// it: the copy's length, or the refusal.
 fn copied(message: &[u8], next: usize, n: usize, out: &mut [u8]) -> Judged
     requires { ⌜ Copyable (now message) next n (256 * rowSize) ⌝ }
-    ensures answer { λ r. ⌜ told r ≡ lengthOf (copying (length (now (out .entry))) (now (message .entry)) next n) ⌝ }
-    ensures copied { λ _. ⌜ now (out .exit) ≡ outputAfter (now (out .entry)) (copying (length (now (out .entry))) (now (message .entry)) next n) ⌝ }
+    ensures answer { λ r. ⌜ judged r ≡ lengthOf (copying (length (now (out .entry))) (now (message .entry)) next n) ⌝ }
+    ensures copied { λ _. ⌜
+        now (out .exit)
+        ≡ outputAfter (now (out .entry)) (copying (length (now (out .entry))) (now (message .entry)) next n)
+        ⌝ }
 {
     if n <= 8 {
         let mut few = [0u32; 8 * ROW];
@@ -86,10 +102,14 @@ fn copied(message: &[u8], next: usize, n: usize, out: &mut [u8]) -> Judged
     copied_by(message, next, n, &mut all, out)
 }
 
-// The length of the message, whose blanked copy is at the front of `out`; or the refusal, reading's or 14 where `out` is shorter than the message.
+// The length of the message, whose blanked copy is at the front of `out`; or the refusal, reading's or 14 where `out`
+// is shorter than the message.
 pub fn blank(message: &[u8], out: &mut [u8]) -> Judged
-    ensures answer { λ r. ⌜ told r ≡ lengthOf (blanking (length (now (out .entry))) (now (message .entry))) ⌝ }
-    ensures copied { λ _. ⌜ now (out .exit) ≡ outputAfter (now (out .entry)) (blanking (length (now (out .entry))) (now (message .entry))) ⌝ }
+    ensures answer { λ r. ⌜ judged r ≡ lengthOf (blanking (length (now (out .entry))) (now (message .entry))) ⌝ }
+    ensures copied { λ _. ⌜
+        now (out .exit)
+        ≡ outputAfter (now (out .entry)) (blanking (length (now (out .entry))) (now (message .entry)))
+        ⌝ }
 {
     let o = opened(message, Lent::NoTable);
     let said = o.said;

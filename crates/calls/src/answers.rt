@@ -1,5 +1,6 @@
-// What a call of the writer answers, as text: a line with its word and the bytes written so far, or with the refusal. The first byte of the output that
-// the call may not change and did gets a line too, and so does a refused call that hands back another state than it has to.
+// What a call of the writer answers, as text: a line with its word and the bytes written so far, or with the refusal.
+// The first byte of the output that the call may not change and did gets a line too, and so does a refused call that
+// hands back another state than it has to.
 use copies::fault;
 use lines::part;
 use pieces::number;
@@ -32,8 +33,9 @@ fn keep(output: &[u8], kept: &mut [u8], from: usize, to: usize) {
     }
 }
 
-// The place after the lines of a call with this word, put from `from` on. Refused, it has to hand back the state `left`; granted, it may write from
-// `left.written` on. The output held `kept` before it, which then holds what was written too.
+// The place after the lines of a call with this word, put from `from` on. Refused, it has to hand back the state
+// `left`; granted, it may write from `left.written` on. The output held `kept` before it, which then holds what was
+// written too.
 pub(crate) fn answer(
     word: &[u8],
     wrote: Wrote,
@@ -76,7 +78,8 @@ fn refused(refusal: Refusal, out: &mut [u8], from: usize) -> usize {
     put(b"\n", out, at)
 }
 
-// The place after the line of the first byte of the output that was changed and does not stand from `first` up to `end`; no line where there is none.
+// The place after the line of the first byte of the output that was changed and does not stand from `first` up to
+// `end`; no line where there is none.
 fn untouched(
     kept: &[u8],
     output: &[u8],
@@ -92,7 +95,8 @@ fn untouched(
     fault(b"touched at ", place, output.len(), out, from)
 }
 
-// The place of the first byte of the output, from `from` up to `to`, that is not as in `kept`; `to` where there is none.
+// The place of the first byte of the output, from `from` up to `to`, that is not as in `kept`; `to` where there is
+// none.
 fn changed(kept: &[u8], output: &[u8], from: usize, to: usize) -> usize {
     let mut i = from;
     while i < to {
@@ -140,7 +144,8 @@ fn same(a: Writer, b: Writer) -> bool {
     a.closed == b.closed
 }
 
-// The place after reading's first line of the message that a granted closing left in the output; no line where it was refused.
+// The place after reading's first line of the message that a granted closing left in the output; no line where it was
+// refused.
 pub(crate) fn read_back(wrote: Wrote, output: &[u8], out: &mut [u8], from: usize) -> usize {
     let said = wrote.said;
     match said {
@@ -155,8 +160,8 @@ pub(crate) fn read_back(wrote: Wrote, output: &[u8], out: &mut [u8], from: usize
     }
 }
 
-// The place after the line of the first byte of the output that is not as in `bytes`, whose length counts as one where the output is shorter; no line
-// where the output begins with them.
+// The place after the line of the first byte of the output that is not as in `bytes`, whose length counts as one where
+// the output is shorter; no line where the output begins with them.
 pub(crate) fn begins(bytes: &[u8], output: &[u8], out: &mut [u8], from: usize) -> usize {
     let mut i = 0;
     while i < bytes.len() {

@@ -23,7 +23,8 @@ struct Step {
     at: usize,
 }
 
-// What a line asks opening for; `known` where the line is understood. The count's type, `kind`, is no byte where it is not stated.
+// What a line asks opening for; `known` where the line is understood. The count's type, `kind`, is no byte where it is
+// not stated.
 struct Opening {
     known: bool,
     number: i64,
@@ -32,7 +33,8 @@ struct Opening {
     kind: usize,
 }
 
-// The length of what the calls of these lines answer, put at the front of `out`: each opens with these ids, and the output has `room` bytes.
+// The length of what the calls of these lines answer, put at the front of `out`: each opens with these ids, and the
+// output has `room` bytes.
 pub fn answer(text: &[u8], ids: &[u8], room: usize, out: &mut [u8]) -> usize {
     let mut output = [BEFORE; ROOM];
     let mut kept = [BEFORE; ROOM];

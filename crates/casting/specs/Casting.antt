@@ -21,7 +21,8 @@ withMark kind bits m = kind ∷ bits ∷ m .unit ∷ m .currency ∷ m .display 
 abbrev pub withNone : ℕ → ℕ → List ℕ
 withNone kind bits = kind ∷ bits ∷ 0 ∷ 0 ∷ 0 ∷ []
 
--- The kind, and the bits: two's complement of the value's own width, IEEE 754's bits, 1 for true, the character; of what is not a number, the code.
+-- The kind, and the bits: two's complement of the value's own width, IEEE 754's bits, 1 for true, the character; of
+-- what is not a number, the code.
 unfoldable pub scalarNumbers : Scalar → List ℕ
 scalarNumbers (Byte z) = withNone 0 (bitsOf 8 z)
 scalarNumbers (Short z) = withNone 1 (bitsOf 16 z)
@@ -41,8 +42,8 @@ abbrev pub valueNumbers : Answer Scalar → List ℕ
 valueNumbers (fine v) = 0 ∷ 0 ∷ scalarNumbers v
 valueNumbers (refused k p) = k ∷ p ∷ replicate 5 0
 
--- The other way, the scalar of a kind, of bits and of a mark: the kinds of 8 bits; those of 16; those of 32; and all. What is of no kind, or has more
--- bits than its kind, and a NaN, is not a number, which adding refuses by 17.
+-- The other way, the scalar of a kind, of bits and of a mark: the kinds of 8 bits; those of 16; those of 32; and all.
+-- What is of no kind, or has more bits than its kind, and a NaN, is not a number, which adding refuses by 17.
 unfoldable pub from8 : ℕ → ℕ → Scalar
 from8 kind x =
     cond (eqb kind 0) (Byte (twos 8 x))

@@ -21,7 +21,8 @@ use signed::i16_of;
 use signed::i32_of;
 use signed::i64_of;
 
-// The bits of a float; of a NaN, which asking never answers, the pattern with the sign clear and only the highest digit set.
+// The bits of a float; of a NaN, which asking never answers, the pattern with the sign clear and only the highest digit
+// set.
 fn float_bits(x: f32) -> u64
     ensures { λ r. ⌜ r ≡ toBits binary32 x ⌝ }
 {
@@ -94,8 +95,8 @@ fn value_numbers(said: Value) -> [u64; 7]
     }
 }
 
-// Stores the 7 numbers of what asking for a value answers in `answer`, and returns the first of them; 255, and nothing is stored, where `answer` is too
-// short.
+// Stores the 7 numbers of what asking for a value answers in `answer`, and returns the first of them; 255, and nothing
+// is stored, where `answer` is too short.
 pub fn give_value(said: Value, answer: &mut [u64]) -> u32
     ensures returned { λ r. ⌜ r ≡ returned 7 (now (answer .entry)) (valueNumbers (valued said)) ⌝ }
     ensures answered { λ _. ⌜ now (answer .exit) ≡ answerAfter 7 (now (answer .entry)) (valueNumbers (valued said)) ⌝ }

@@ -58,9 +58,9 @@ numberOf FederateKilled = 16
 numberOf FederatesKilled = 17
 
 -- What an answer of the code says: the number of the command's row, or the refusal.
-abbrev pub told : Commanded → Answer ℕ
-told (Is c) = fine (numberOf c)
-told (Refused r) = refused (r .number) (r .place)
+abbrev pub commandAs : Commanded → Answer ℕ
+commandAs (Is c) = fine (numberOf c)
+commandAs (Refused r) = refused (r .number) (r .place)
 
 -- Each command has the row of its type id; and each row has a command. Proved in proofs/NameLaws.antt, as the next.
 abbrev pub Rows-have-their-names : Type 0

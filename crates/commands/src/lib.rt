@@ -9,7 +9,7 @@ ghost use Rattle.sim0mq.specs.Table.{rowSize};
 ghost use Rattle.sim0mq.specs.Views.{judged};
 ghost use Rattle.commands_page.specs.Page.{numberOr, basic as basicOf, stateString, faultString, rowAt, page};
 ghost use Rattle.commands_page.specs.Judging.{isWord, codeTaken, textTaken, passes as passesOf, wantIn, numberFrom, each as eachOf, numberRight, fieldsRight, looksAt, commandOf, commanded};
-ghost use Rattle.commands.specs.Names.{numberOf, told};
+ghost use Rattle.commands.specs.Names.{numberOf, commandAs};
 ghost use Rattle.commands.specs.Tables.{countRow, wantRow, wantOf, Cell, Held, Ids, done, fieldOf, commandedBy};
 use numbers::wide;
 use numbers::wide32;
@@ -463,7 +463,7 @@ fn named(k: usize) -> Name
 
 // Which command the message is, by a table that holds its rows; 14 where it has no room for them.
 fn command_by(message: &[u8], table: &mut [u32]) -> Commanded
-    ensures { λ r. ⌜ told r ≡ commandedBy (length (now (table .entry))) (now (message .entry)) ⌝ }
+    ensures { λ r. ⌜ commandAs r ≡ commandedBy (length (now (table .entry))) (now (message .entry)) ⌝ }
 {
     let answer = read(message, table);
     let said = answer.said;
@@ -492,7 +492,7 @@ fn command_by(message: &[u8], table: &mut [u32]) -> Commanded
 
 // Which command the message is. Only FM.2 has more than twelve fields, so a table of twelve rows is tried first.
 pub fn command(message: &[u8]) -> Commanded
-    ensures { λ r. ⌜ told r ≡ commanded (now (message .entry)) ⌝ }
+    ensures { λ r. ⌜ commandAs r ≡ commanded (now (message .entry)) ⌝ }
 {
     let mut few = [0u32; 12 * ROW];
     match command_by(message, &mut few) {

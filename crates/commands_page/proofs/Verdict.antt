@@ -247,7 +247,7 @@ looked-apart s m row q i look =
 
 pub verdict-hangs-on-few-bytes : Verdict-hangs-on-few-bytes
 verdict-hangs-on-few-bytes s t m n p q build same =
-    let alike : n ≡ m = sym (copy-tells-only-the-build s t m n p q .1 build) in
+    let alike : n ≡ m = sym (copy-tells-only-the-build noTable s t m n p q .1 build) in
     looked-same s t m p (q ∙ ap fine alike) (λ i look. go i (looked-apart s m (rowNamed s m) p i look))
   where
     go : (i : ℕ) → Weighed m (rowNamed s m) i ⊎ (ValueByte (m .fields) i → ⊥) → byte s i ≡ byte t i

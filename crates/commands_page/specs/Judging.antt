@@ -139,8 +139,8 @@ commanded s = do
   m ← reading noTable s
   commandOf s (looks (m .frames)) (m .fields)
 
--- The order on the smallest cases: of two wrong codes the earlier is told, a wrong number of fields before a wrong code,
--- and FM.2's sixth field before its number of pairs. A byte is a field that MC.1 and FM.2 take nowhere.
+-- The order on the smallest cases: of two wrong codes the earlier is told, a wrong number of fields before a wrong
+-- code, and FM.2's sixth field before its number of pairs. A byte is a field that MC.1 and FM.2 take nowhere.
 abbrev aByte : ℕ → Field
 aByte place = record { code = 0; place = place; first = place + 1; size = 1; marked = 0; values = 1 }
 

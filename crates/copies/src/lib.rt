@@ -1,5 +1,6 @@
-// What blanking answers, as text: a line with the length or the refusal, then a line for each run of bytes of the copy that were cleared. The first
-// byte of the copy that is neither zero nor the message's own gets a line too, and so does the first past the copy that is not as it was before.
+// What blanking answers, as text: a line with the length or the refusal, then a line for each run of bytes of the copy
+// that were cleared. The first byte of the copy that is neither zero nor the message's own gets a line too, and so does
+// the first past the copy that is not as it was before.
 use lines::ROOM;
 use lines::part;
 use pieces::number;
@@ -93,7 +94,8 @@ fn cleared(message: &[u8], copy: &[u8], i: usize) -> bool {
     copy[i] == 0
 }
 
-// The place after the line of a run of zeros, its first place and its last, put from `from` on; no line where the run is empty.
+// The place after the line of a run of zeros, its first place and its last, put from `from` on; no line where the run
+// is empty.
 fn zero(first: usize, end: usize, out: &mut [u8], from: usize) -> usize {
     if end <= first {
         return from;
@@ -105,7 +107,8 @@ fn zero(first: usize, end: usize, out: &mut [u8], from: usize) -> usize {
     put(b"\n", out, at)
 }
 
-// The place of the first byte of the copy that is neither zero nor the message's own; the copy's length where there is none.
+// The place of the first byte of the copy that is neither zero nor the message's own; the copy's length where there is
+// none.
 fn other(message: &[u8], copy: &[u8]) -> usize {
     let mut i = 0;
     while i < copy.len() {
@@ -128,7 +131,8 @@ fn own(message: &[u8], b: u8, i: usize) -> bool {
     b == message[i]
 }
 
-// The place of the first byte of the output, from `from` on, that is not as it was before; a place past the output where there is none.
+// The place of the first byte of the output, from `from` on, that is not as it was before; a place past the output
+// where there is none.
 pub fn touched(output: &[u8], from: usize) -> usize {
     let mut at = from;
     while at < output.len() {

@@ -1,5 +1,5 @@
--- The numbers in which each answer crosses to C and Rust. The first is 0 where the call is granted, else the refusal's number (01, "Refusals and their
--- places"); the second is the refusal's place, 0 where it is granted.
+-- The numbers in which each answer crosses to C and Rust. The first is 0 where the call is granted, else the refusal's
+-- number (01, "Refusals and their places"); the second is the refusal's place, 0 where it is granted.
 use Prim.Native.Nat.{ℕ}
 use mathlib.Core.List.{List, [], _∷_, flatMap}
 use lib.ListN.{replicate}
@@ -15,7 +15,8 @@ use Rattle.reading.specs.declared.Answer.{Answer}
 abbrev pub frameNumbers : Frame → List ℕ
 frameNumbers f = f .place ∷ f .code ∷ []
 
--- Reading, 21 numbers: number, place, length, fields, steps, then the place and the type code of each of the eight frames.
+-- Reading, 21 numbers: number, place, length, fields, steps, then the place and the type code of each of the eight
+-- frames.
 abbrev pub saidNumbers : Reading → List ℕ → List ℕ
 saidNumbers (Reading·Accepted f) frames = 0 ∷ 0 ∷ f .length ∷ f .fields ∷ f .steps ∷ frames
 saidNumbers (Reading·Refused r) frames = r .number ∷ r .place ∷ replicate 19 0

@@ -1,4 +1,5 @@
-// Answers of reading, asking and blanking as numbers, stored in the answer that a caller lends: what the calls for C and Rust hand over.
+// Answers of reading, asking and blanking as numbers, stored in the answer that a caller lends: what the calls for C
+// and Rust hand over.
 ghost use mathlib.Core.Path.{_≡_};
 ghost use mathlib.Core.List.{flatMap};
 ghost use Prim.Native.Nat.{_<_};
@@ -74,7 +75,8 @@ fn view_numbers(found: Fielded) -> [u64; 4]
     }
 }
 
-// Stores the 21 numbers of what reading answers in `answer`, and returns the first of them; 255, and nothing is stored, where `answer` is too short.
+// Stores the 21 numbers of what reading answers in `answer`, and returns the first of them; 255, and nothing is stored,
+// where `answer` is too short.
 pub fn give_read(a: Answer, answer: &mut [u64]) -> u32
     ensures returned { λ r. ⌜ r ≡ returned 21 (now (answer .entry)) (readNumbers a) ⌝ }
     ensures answered { λ _. ⌜ now (answer .exit) ≡ answerAfter 21 (now (answer .entry)) (readNumbers a) ⌝ }

@@ -1,4 +1,5 @@
--- The contract of a public call is an equation for its result and for each buffer that it may write, so any two outcomes that it allows are equal.
+-- The contract of a public call is an equation for its result and for each buffer that it may write, so any two
+-- outcomes that it allows are equal.
 use mathlib.Core.Path.{_≡_, refl, ap, sym, _∙_}
 use mathlib.Core.Bool.{cond}
 use lib.Dec.{eqb}
@@ -27,7 +28,7 @@ use Rattle.ledger_judging.specs.declared.Ordered.the-variants.{Granted, Refused
 use Rattle.recordings.specs.Recordings.{askedAs}
 use Rattle.recordings.specs.declared.Asked.{Asked}
 use Rattle.recordings.specs.declared.Asked.the-variants.{At, Refused as Asked·Refused}
-use Rattle.commands.specs.Names.{told}
+use Rattle.commands.specs.Names.{commandAs}
 use Rattle.commands.specs.declared.Commanded.{Commanded}
 use Rattle.commands.specs.declared.Commanded.the-variants.{Is as Command·Is, Refused as Command·Refused}
 use Rattle.commands.proofs.NameLaws.{same-name}
@@ -174,8 +175,9 @@ use Rattle.pieces.proofs.number.Reads as decimal
 use Rattle.listing.proofs.listing.Reads as listing
 use Rattle.listing.proofs.first_line.Reads as first-line
 
--- A contract says of an outcome, the result z and the parameters e at exit, whether it is allowed at the arguments a and the lifetimes κs.
--- It determines what is seen of an outcome where any two that it allows at the same arguments look the same.
+-- A contract says of an outcome, the result z and the parameters e at exit, whether it is allowed at the arguments a
+-- and the lifetimes κs. It determines what is seen of an outcome where any two that it allows at the same arguments
+-- look the same.
 abbrev pub Determines : {K : Type 0} {A Z E X : K → Type 0} → ((κs : K) → A κs → Z κs → E κs → Type 0) → ((κs : K) → Z κs → E κs → X κs) → Type 0
 Determines {K} {A} {Z} {E} contract seen =
     (κs : K) (a : A κs) (z z′ : Z κs) (e e′ : E κs) → contract κs a z e → contract κs a z′ e′ → seen κs z e ≡ seen κs z′ e′
@@ -223,7 +225,7 @@ asked-apart (At p) (Asked·Refused r) e = absurd (not-fine (sym e))
 asked-apart (Asked·Refused r) (At q) e = absurd (not-fine e)
 asked-apart (Asked·Refused r) (Asked·Refused q) e = ap Asked·Refused (same-refusal r q e)
 
-command-apart : (x y : Commanded) → told x ≡ told y → x ≡ y
+command-apart : (x y : Commanded) → commandAs x ≡ commandAs y → x ≡ y
 command-apart (Command·Is c) (Command·Is d) e = ap Command·Is (same-name c d (fine-eq e))
 command-apart (Command·Is c) (Command·Refused r) e = absurd (not-fine (sym e))
 command-apart (Command·Refused r) (Command·Is d) e = absurd (not-fine e)
@@ -528,7 +530,7 @@ salvage-out = equated salvage.Post (λ κs z e. now (e .1 .0)) _ (λ κs a z e p
 
 -- The call of crate commands.
 pub command-result : Determines command.Post (λ κs z e. z)
-command-result = determined command.Post (λ κs z e. z) (λ κs. told) (λ κs. command-apart) _ (λ κs a z e p. p)
+command-result = determined command.Post (λ κs z e. z) (λ κs. commandAs) (λ κs. command-apart) _ (λ κs a z e p. p)
 
 -- The calls of the book of senders.
 pub place-of-result : Determines place-of.Post (λ κs z e. z)

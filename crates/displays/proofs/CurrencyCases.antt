@@ -21,12 +21,12 @@ alike-same false true e = absurd (false≢true e)
 alike-same false false e = refl
 
 -- bit k of word w is set where 64 w + k is a currency code
-unfoldable pub told : ℕ → ℕ → ℕ → Bool
-told w r k = alike (bit r k) (currencyTaken (w * 64 + k))
+unfoldable pub agrees : ℕ → ℕ → ℕ → Bool
+agrees w r k = alike (bit r k) (currencyTaken (w * 64 + k))
 
-pub word-told : (v r : ℕ) → allBelow 64 (told v r) ≡ true → {w : ℕ} → w ≡ v → (k : ℕ) → k < 64 → bit r k ≡ currencyTaken (w * 64 + k)
-unfolding told
-word-told v r a e k h = rw e (alike-same _ _ (below-at (told v r) 64 k a h))
+pub word-told : (v r : ℕ) → allBelow 64 (agrees v r) ≡ true → {w : ℕ} → w ≡ v → (k : ℕ) → k < 64 → bit r k ≡ currencyTaken (w * 64 + k)
+unfolding agrees
+word-told v r a e k h = rw e (alike-same _ _ (below-at (agrees v r) 64 k a h))
 
 not-above : (c : ℕ) → 1000 < c → (b : Bool) → currencyTaken c ≡ b → false ≡ b
 not-above c h true e = absurd (let l = currency-most c e in omega arith)

@@ -1,4 +1,5 @@
--- How scalars are written, case by case, in the words of the code's tests: each return of the code cites the case that it is.
+-- How scalars are written, case by case, in the words of the code's tests: each return of the code cites the case that
+-- it is.
 use Prim.Native.Nat.{ℕ, suc, _+_, _-_, _≤_, _<_, _^_}
 use mathlib.Core.Path.{_≡_, refl, sym, ap, _∙_}
 use mathlib.Core.Bool.{Bool, true, false, cond, true≢false}

@@ -30,14 +30,16 @@ codeOf (NotNumber c) = c
 unfoldable pub scalarText : Scalar → List ℕ
 scalarText v = codeOf v ∷ (markBytes v ++ scalarBytes v)
 
--- Does reading take a mark, whose unit type is of this kind, and give just these numbers for it? Where a kind has no currency or no display code, 0 stands.
+-- Does reading take a mark, whose unit type is of this kind, and give just these numbers for it? Where a kind has no
+-- currency or no display code, 0 stands.
 unfoldable pub markTaken : Mark → Kind → Bool
 markTaken m (plain t) = eqb (m .currency) 0 && displayTaken t (m .display)
 markTaken m money = currencyTaken (m .currency) && eqb (m .display) 0
 markTaken m (moneyPer t) = currencyTaken (m .currency) && displayTaken t (m .display)
 markTaken m unknown = false
 
--- May a scalar be written (01, refusal 17)? Not "not a number", no NaN, and no mark that reading would refuse or never gives.
+-- May a scalar be written (01, refusal 17)? Not "not a number", no NaN, and no mark that reading would refuse or never
+-- gives.
 unfoldable pub writable : Scalar → Bool
 writable (Byte z) = true
 writable (Short z) = true

@@ -9,8 +9,8 @@ use sim0mq::Judged;
 use sim0mq::Refusal;
 use values::size;
 
-// What is known of a field: its code, the places of its code byte and of its first value byte, the number of its value bytes, of its marks
-// and of its values.
+// What is known of a field: its code, the places of its code byte and of its first value byte, the number of its value
+// bytes, of its marks and of its values.
 pub struct Field {
     pub code: usize,
     pub place: usize,

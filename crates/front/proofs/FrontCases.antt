@@ -27,7 +27,7 @@ use Rattle.header.specs.declared.Frame.{Frame}
 use Rattle.header.specs.declared.End.{End}
 use Rattle.header.specs.declared.Said.the-variants.{Accepted as Said·Accepted, Refused as Said·Refused}
 use Rattle.header.specs.Frames.{framed, told}
-use Rattle.front.specs.Front.{opening}
+use Rattle.front.specs.Front.{frontOf}
 
 -- the room
 pub enough-none : (n : ℕ) → true ≡ enough M.noTable n
@@ -60,31 +60,31 @@ header-most s h e = leb-true _ 256 (header-sound s h e .is .taken)
 
 -- what stands before the payload
 module _ (lent : M.Lent) (s : List ℕ) where
-  pub opening-long : limit < length s → opening lent s ≡ refused 8 0
-  unfolding opening
-  opening-long h = simp (lt-leb (length s) limit h)
+  pub front-long : limit < length s → frontOf lent s ≡ refused 8 0
+  unfolding frontOf
+  front-long h = simp (lt-leb (length s) limit h)
 
   module _ (short : length s ≤ limit) where
-    pub opening-stop : (k p : ℕ) → header s ≡ refused k p → opening lent s ≡ refused k p
-    unfolding opening
-    opening-stop k p e = simp (le-leb (length s) limit short, e)
+    pub front-stop : (k p : ℕ) → header s ≡ refused k p → frontOf lent s ≡ refused k p
+    unfolding frontOf
+    front-stop k p e = simp (le-leb (length s) limit short, e)
 
     module _ (h : Header) (a : header s ≡ fine h) where
-      pub opening-room : enough lent (h .fields) ≡ false → opening lent s ≡ refused 14 0
-      unfolding opening
-      opening-room e = simp (le-leb (length s) limit short, a, e)
+      pub front-room : enough lent (h .fields) ≡ false → frontOf lent s ≡ refused 14 0
+      unfolding frontOf
+      front-room e = simp (le-leb (length s) limit short, a, e)
 
-      pub opening-fine : enough lent (h .fields) ≡ true → opening lent s ≡ fine h
-      unfolding opening
-      opening-fine e = simp (le-leb (length s) limit short, a, e)
+      pub front-fine : enough lent (h .fields) ≡ true → frontOf lent s ≡ fine h
+      unfolding frontOf
+      front-fine e = simp (le-leb (length s) limit short, a, e)
 
   -- reading is that, and then the payload
-  reading-opening : reading lent s ≡ (opening lent s >>= messageRest s)
-  unfolding reading message opening
-  reading-opening = by-length (leb (length s) limit) refl
+  reading-front : reading lent s ≡ (frontOf lent s >>= messageRest s)
+  unfolding reading message frontOf
+  reading-front = by-length (leb (length s) limit) refl
     where
       Same : Type 0
-      Same = reading lent s ≡ (opening lent s >>= messageRest s)
+      Same = reading lent s ≡ (frontOf lent s >>= messageRest s)
 
       by-room : (h : Header) → leb (length s) limit ≡ true → header s ≡ fine h → (b : Bool) → enough lent (h .fields) ≡ b → Same
       by-room h l q true r = simp (l, q, r)
@@ -98,13 +98,13 @@ module _ (lent : M.Lent) (s : List ℕ) where
       by-length true l = by-header l (header s) refl
       by-length false l = simp l
 
-  pub reading-closed : (k p : ℕ) → opening lent s ≡ refused k p → reading lent s ≡ refused k p
-  reading-closed k p e = reading-opening ∙ simp e
+  pub reading-closed : (k p : ℕ) → frontOf lent s ≡ refused k p → reading lent s ≡ refused k p
+  reading-closed k p e = reading-front ∙ simp e
 
   -- where it is not refused
-  module _ (h : Header) (a : opening lent s ≡ fine h) where
+  module _ (h : Header) (a : frontOf lent s ≡ fine h) where
     pub open-parts : (length s ≤ limit) × (header s ≡ fine h) × (enough lent (h .fields) ≡ true)
-    unfolding opening
+    unfolding frontOf
     open-parts =
         let b = guarded (leb (length s) limit) _ _ _ a in
         let c = bind-fine (header s) _ (b .1) in
@@ -123,7 +123,7 @@ module _ (lent : M.Lent) (s : List ℕ) where
 
       pub open-reading : reading lent s ≡ (partAt next (payload (drop next s) n) >>= (λ fs. fine (readingOf s h fs)))
       unfolding messageRest
-      open-reading = reading-opening ∙ simp (a, p, q)
+      open-reading = reading-front ∙ simp (a, p, q)
 
       -- the payload's reader tells the rest
       pub open-refused : (k w : ℕ) → payloadSteps s next n ≡ refused k w → reading lent s ≡ refused k w

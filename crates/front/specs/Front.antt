@@ -22,8 +22,8 @@ abbrev pub noFrames : List Frame
 noFrames = replicate 8 (record { place = 0; code = 0 })
 
 -- What stands before the payload: the message's length (8), the header, and the table's room (14).
-unfoldable pub opening : M.Lent → List ℕ → S.Answer Header
-opening lent s = do
+unfoldable pub frontOf : M.Lent → List ℕ → S.Answer Header
+frontOf lent s = do
   guard (leb (length s) limit) 8 0
   h ← header s
   guard (enough lent (h .fields)) 14 0

@@ -1,9 +1,10 @@
-// What stands before the payload of a message, judged: its length, its header, and whether there is room for its fields.
+// What stands before the payload of a message, judged: its length, its header, and whether there is room for its
+// fields.
 ghost use mathlib.Core.Path.{_≡_};
 ghost use Rattle.sim0mq.specs.Answer.{refused};
 ghost use Rattle.header.specs.Frames.{told};
 ghost use Rattle.sim0mq.specs.Message.{enough as enoughOf};
-ghost use Rattle.front.specs.Front.{lentOf, noFrames, opening};
+ghost use Rattle.front.specs.Front.{lentOf, noFrames, frontOf};
 use header::Frame;
 use header::Said;
 use header::header;
@@ -27,10 +28,10 @@ fn enough(lent: Lent, n: usize) -> bool
     }
 }
 
-// What stands before the payload: the message's length is judged, then its header, then the table's room. The header's end and the declared number of fields,
-// with the frames; or the refusal, with no frames.
+// What stands before the payload: the message's length is judged, then its header, then the table's room. The header's
+// end and the declared number of fields, with the frames; or the refusal, with no frames.
 pub fn opened(message: &[u8], lent: Lent) -> header::Answer
-    ensures { λ r. ⌜ r ≡ told noFrames (opening (lentOf lent) (now (message .entry))) ⌝ }
+    ensures { λ r. ⌜ r ≡ told noFrames (frontOf (lentOf lent) (now (message .entry))) ⌝ }
 {
     let none = [Frame { place: 0, code: 0 }; 8];
     if LIMIT < message.len() {

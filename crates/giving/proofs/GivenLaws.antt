@@ -29,7 +29,8 @@ pub answered-short : (n : ℕ) (answer told : List ℕ) → length answer < n �
 unfolding answerAfter
 answered-short n answer told h = given-short n answer (stored answer told) answer h
 
--- With room, the first number is returned, where the call's numbers are those that the definition tells; and they are stored.
+-- With room, the first number is returned, where the call's numbers are those that the definition tells; and they are
+-- stored.
 pub returned-room : (n : ℕ) (answer numbers told : List ℕ) (r : ℕ) → n ≤ length answer → numbers ≡ told → r ≡ getD numbers 0 0 → r ≡ returned n answer told
 unfolding returned
 returned-room n answer numbers told r h e f = f ∙ (ap (λ (l : List ℕ). getD l 0 0) e ∙ given-room n answer (getD told 0 0) 255 h)

@@ -6,7 +6,8 @@ use lib.Dec.{leb}
 use lib.ListN.{length, getD}
 use Rattle.sim0mq.specs.Table.{stored}
 
--- What is left in a place after a call of n numbers: `after` where the lent answer has room for them; else `before`, for nothing at all is written.
+-- What is left in a place after a call of n numbers: `after` where the lent answer has room for them; else `before`,
+-- for nothing at all is written.
 unfoldable pub given : {A : Type 0} → ℕ → List ℕ → A → A → A
 given n answer after before = cond (leb n (length answer)) after before
 

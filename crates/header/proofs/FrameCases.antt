@@ -17,7 +17,7 @@ use Rattle.sim0mq.specs.Header as H
 use Rattle.sim0mq.specs.Header.{idCodes, numberCodes, statusCodes, countCodes, among, statusTaken, fieldsTaken, magic, frame, status, declared, frameOf, headerOf, header}
 use Rattle.sim0mq.proofs.Answers.{needed, needed-bind, guarded, bind-fine, fine-eq}
 use Rattle.sim0mq.proofs.Refusals.{field-within}
-use Rattle.header.specs.Frames.{NoBoolean, nthFrame, Declares, declares, declaredNumber, headerWith, headerFrom, headerRest, framed, shown}
+use Rattle.header.specs.Frames.{NoBoolean, nthFrame, Declares, declares, declaredNumber, headerEnding, headerFrom, headerRest, framed, shown}
 use Rattle.header.specs.declared.Frame.{Frame}
 
 -- one of these numbers: this one, a later one, or none
@@ -174,7 +174,7 @@ module _ (s : List ℕ) where
           → ((a >>= (λ f. fine (declares s f)))
           >>= (λ d.
           fine
-          (headerWith
+          (headerEnding
           (record { place = 0; code = 9 } ∷ frameOf run ∷ frameOf sender ∷ frameOf receiver ∷ frameOf kind ∷ frameOf number ∷ frameOf stat ∷ []) d)))
           ≡ (a >>= (λ f. fine (headerOf s run sender receiver kind number stat f)))
       last run sender receiver kind number stat (fine f) = refl

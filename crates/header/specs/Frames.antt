@@ -39,14 +39,14 @@ declaredNumber s at = do
   fine (declares s f)
 
 -- The header that ends with frame 7, after the frames `done`.
-abbrev pub headerWith : List H.Frame → Declares → H.Header
-headerWith done d = record { frames = done ++ (frameOf (d .field) ∷ []); fields = d .number; next = after (d .field) }
+abbrev pub headerEnding : List H.Frame → Declares → H.Header
+headerEnding done d = record { frames = done ++ (frameOf (d .field) ∷ []); fields = d .number; next = after (d .field) }
 
 -- The header from frame k on, n frames before frame 7, after the frames `done`.
 unfoldable pub headerFrom : List ℕ → ℕ → ℕ → List H.Frame → ℕ → Answer H.Header
 headerFrom s zero k done at = do
   d ← declaredNumber s at
-  fine (headerWith done d)
+  fine (headerEnding done d)
 headerFrom s (suc n) k done at = do
   f ← nthFrame s k at
   headerFrom s n (k + 1) (done ++ (frameOf f ∷ [])) (after f)
@@ -55,7 +55,8 @@ headerFrom s (suc n) k done at = do
 abbrev pub headerRest : List ℕ → ℕ → Answer H.Header
 headerRest s at = headerFrom s 6 1 (record { place = 0; code = 9 } ∷ []) at
 
--- Each case of an answer, as an answer of the definitions; and the whole answer, told by the definition and by the frames that went in.
+-- Each case of an answer, as an answer of the definitions; and the whole answer, told by the definition and by the
+-- frames that went in.
 abbrev pub counted : Counted → Answer Declares
 counted (Counted·Accepted c) = fine (record { field = seen (c .field); number = c .number })
 counted (Counted·Refused r) = refused (r .number) (r .place)

@@ -216,7 +216,8 @@ fn rest(s: &[u8], frames: [Frame; 8], start: usize) -> Answer
     }
 }
 
-// The header at the front of s: the declared number of fields and the header's end, with the frames; or the refusal, with the frames as they were.
+// The header at the front of s: the declared number of fields and the header's end, with the frames; or the refusal,
+// with the frames as they were.
 pub fn header(s: &[u8], frames: [Frame; 8]) -> Answer
     ensures { λ r. ⌜ r ≡ told frames (headerOf (now (s .entry))) ⌝ }
 {

@@ -8,7 +8,8 @@ pub enum Input {
     Failed,
 }
 
-// How many bytes of standard input stand at the front of `buf`, which is then full or has the whole input; or that a read failed.
+// How many bytes of standard input stand at the front of `buf`, which is then full or has the whole input; or that a
+// read failed.
 pub fn fill(buf: &mut [u8]) -> Input
     ensures { λ r. ⌜ Within r (now (buf .exit)) ⌝ }
 {

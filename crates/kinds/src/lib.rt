@@ -9,8 +9,8 @@ pub struct Mark {
     pub display: u8,
 }
 
-// A scalar value: a signed number of its width, a float, a double, a Boolean, a character of 8 or 16 bits, a float or double with its mark; or, where
-// the bits are a NaN, that they are not a number, with the field's code.
+// A scalar value: a signed number of its width, a float, a double, a Boolean, a character of 8 or 16 bits, a float or
+// double with its mark; or, where the bits are a NaN, that they are not a number, with the field's code.
 pub enum Scalar {
     Byte(i8),
     Short(i16),

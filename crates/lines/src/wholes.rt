@@ -1,7 +1,8 @@
 // The signed numbers of a line.
 use crate::number;
 
-// A signed number, n, or -1 - n where `below`, and the place after it; n is past any signed number's where none stands there.
+// A signed number, n, or -1 - n where `below`, and the place after it; n is past any signed number's where none stands
+// there.
 pub struct Whole {
     pub below: bool,
     pub n: usize,

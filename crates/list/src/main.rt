@@ -5,7 +5,8 @@ use libc::STDOUT_FILENO;
 use sim0mq::LIMIT;
 use sim0mq::ROW;
 
-// Writes what reading answers of `message`, as text, to standard output; a line to standard error where that cannot be written.
+// Writes what reading answers of `message`, as text, to standard output; a line to standard error where that cannot be
+// written.
 fn print(message: &[u8]) {
     let mut table = [0u32; 256 * ROW];
     let answer = reading::read(message, &mut table);
@@ -18,7 +19,8 @@ fn print(message: &[u8]) {
     }
 }
 
-// Lists standard input, of which one byte more than a message may have is read; a line to standard error where it cannot be read.
+// Lists standard input, of which one byte more than a message may have is read; a line to standard error where it
+// cannot be read.
 fn main() {
     let mut bytes = [0u8; LIMIT + 1];
     match input::fill(&mut bytes) {

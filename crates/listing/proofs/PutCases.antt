@@ -1,5 +1,5 @@
--- What a run of texts leaves in a buffer: the laws by which the code's calls, one after the other, come to the whole run.
--- Assumes nothing.
+-- What a run of texts leaves in a buffer: the laws by which the code's calls, one after the other, come to the whole
+-- run. Assumes nothing.
 use Prim.Native.Nat.{ℕ, _+_, _<_, _≤_, min}
 use native.Mathlib.Omega.{arith}
 use mathlib.Core.Path.{_≡_, refl, sym, _∙_, ap}
@@ -12,7 +12,7 @@ use borrow.Author.Tests.{lt-leb, leb-true, leb-false}
 use Rattle.sim0mq.specs.Allowed.{joined}
 use Rattle.pieces.specs.Put.{placeAfter, withText}
 use Rattle.pieces.proofs.PutCases.{with-fits, with-length}
-use Rattle.listing.specs.Put.{Buffer, buffer, putAll, outAfter, bytesBefore, bytesOf}
+use Rattle.listing.specs.Put.{Buffer, buffer, putAll, outAfter, bytesBefore, bytesWritten}
 
 -- no text; and a text that was put, then others
 pub put-none : (b : Buffer) → b ≡ putAll b []
@@ -80,10 +80,11 @@ counted n m = go (leb n m) refl
         let k : min (0 + n) (m + 1) ≡ m + 1 = omega arith in
         rw (k, lt-leb (m + 1) m (omega arith), e)
 
--- a run put at the front leaves what it should and, once the bytes before its end are counted, has as many bytes as it should
+-- a run put at the front leaves what it should and, once the bytes before its end are counted, has as many bytes as it
+-- should
 pub put-told : (out : List ℕ) (ts : List (List ℕ)) (out′ : List ℕ) (at r : ℕ) (text : List (List ℕ)) → text ≡ ts
-    → buffer out′ at ≡ putAll (buffer out 0) ts → r ≡ bytesBefore out′ at → (r ≡ bytesOf out text) × (out′ ≡ outAfter out text)
-unfolding bytesBefore bytesOf outAfter
+    → buffer out′ at ≡ putAll (buffer out 0) ts → r ≡ bytesBefore out′ at → (r ≡ bytesWritten out text) × (out′ ≡ outAfter out text)
+unfolding bytesBefore bytesWritten outAfter
 put-told out ts out′ at r text e p q =
     let a : at ≡ min (0 + length (joined ts)) (length out + 1) = ap (λ (x : Buffer). x .place) p ∙ put-place out 0 ts (omega arith) in
     let o : out′ ≡ putAll (buffer out 0) ts .out = ap (λ (x : Buffer). x .out) p in

@@ -29,5 +29,5 @@ unfoldable pub bytesBefore : List ℕ → ℕ → ℕ
 bytesBefore out place = cond (leb place (length out)) place 0
 
 -- how many bytes these texts have, end to end: 0 where `out` is too short for them
-unfoldable pub bytesOf : List ℕ → List (List ℕ) → ℕ
-bytesOf out texts = bytesBefore out (length (joined texts))
+unfoldable pub bytesWritten : List ℕ → List (List ℕ) → ℕ
+bytesWritten out texts = bytesBefore out (length (joined texts))

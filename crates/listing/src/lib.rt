@@ -14,14 +14,14 @@ ghost use Prim.Native.Nat.{_*_, _≤_};
 ghost use lib.ListN.{length};
 ghost use Rattle.io.specs.Counts.{Counts};
 ghost use Rattle.sim0mq.specs.Table.{rowSize};
-ghost use Rattle.listing.specs.Put.{buffer, putAll, outAfter, bytesBefore, bytesOf};
+ghost use Rattle.listing.specs.Put.{buffer, putAll, outAfter, bytesBefore, bytesWritten};
 ghost use Rattle.listing.specs.Text.{acceptedText, refusedText, rowText, rowsText, lineText, wholeText};
 
-// The text of what reading answered, at the front of `out`: how many bytes it has, and 0 where `out` is too short for it or `table` for its rows.
-// Each line ends with a newline. Where `table` is too short, nothing is put.
+// The text of what reading answered, at the front of `out`: how many bytes it has, and 0 where `out` is too short for
+// it or `table` for its rows. Each line ends with a newline. Where `table` is too short, nothing is put.
 pub fn listing(said: Reading, table: &[u32], out: &mut [u8]) -> usize
     ensures counts { λ r. ⌜ Counts r (now (out .exit)) ⌝ }
-    ensures answer { λ r. ⌜ r ≡ bytesOf (now (out .entry)) (wholeText said (now (table .entry))) ⌝ }
+    ensures answer { λ r. ⌜ r ≡ bytesWritten (now (out .entry)) (wholeText said (now (table .entry))) ⌝ }
     ensures text { λ _. ⌜ now (out .exit) ≡ outAfter (now (out .entry)) (wholeText said (now (table .entry))) ⌝ }
 {
     match said {
@@ -37,10 +37,11 @@ pub fn listing(said: Reading, table: &[u32], out: &mut [u8]) -> usize
     }
 }
 
-// The first line of that text alone, at the front of `out`: how many bytes it has, and 0 where `out` is too short for it.
+// The first line of that text alone, at the front of `out`: how many bytes it has, and 0 where `out` is too short for
+// it.
 pub fn first_line(said: Reading, out: &mut [u8]) -> usize
     ensures counts { λ r. ⌜ Counts r (now (out .exit)) ⌝ }
-    ensures answer { λ r. ⌜ r ≡ bytesOf (now (out .entry)) (lineText said) ⌝ }
+    ensures answer { λ r. ⌜ r ≡ bytesWritten (now (out .entry)) (lineText said) ⌝ }
     ensures text { λ _. ⌜ now (out .exit) ≡ outAfter (now (out .entry)) (lineText said) ⌝ }
 {
     match said {
@@ -90,7 +91,10 @@ fn refused(refusal: Refusal, out: &mut [u8]) -> usize
 // The place after the rows of the first `fields` fields, put from `from` on.
 fn rows(fields: usize, table: &[u32], out: &mut [u8], from: usize) -> usize
     requires { ⌜ rowSize * fields ≤ length (now table) ⌝ }
-    ensures { λ r. ⌜ buffer (now (out .exit)) r ≡ putAll (buffer (now (out .entry)) from) (rowsText (now (table .entry)) fields) ⌝ }
+    ensures { λ r. ⌜
+        buffer (now (out .exit)) r
+        ≡ putAll (buffer (now (out .entry)) from) (rowsText (now (table .entry)) fields)
+        ⌝ }
 {
     let mut at = from;
     let mut i = 0;
@@ -103,7 +107,10 @@ fn rows(fields: usize, table: &[u32], out: &mut [u8], from: usize) -> usize
 
 // The place after the row of field i, put from `from` on: i and its numbers.
 fn row(i: usize, numbers: &[u32], out: &mut [u8], from: usize) -> usize
-    ensures { λ r. ⌜ buffer (now (out .exit)) r ≡ putAll (buffer (now (out .entry)) from) (rowText i (now (numbers .entry))) ⌝ }
+    ensures { λ r. ⌜
+        buffer (now (out .exit)) r
+        ≡ putAll (buffer (now (out .entry)) from) (rowText i (now (numbers .entry)))
+        ⌝ }
 {
     let mut at = number(i as u64, out, from);
     let mut j = 0;

@@ -1,4 +1,5 @@
--- How the mark judges answer, case by case, in the words of the code's tests: each return of the code cites the case that it is.
+-- How the mark judges answer, case by case, in the words of the code's tests: each return of the code cites the case
+-- that it is.
 use Prim.Native.Nat.{ℕ, zero, suc, _+_, _-_, _≤_, _<_}
 use mathlib.Core.Path.{_≡_, refl, ap, sym, _∙_}
 use mathlib.Core.Bool.{Bool, true, false}

@@ -1,4 +1,5 @@
--- How opening answers, case by case, in the words of the code's tests; its length is that of the header, whose pieces stand one after the other.
+-- How opening answers, case by case, in the words of the code's tests; its length is that of the header, whose pieces
+-- stand one after the other.
 use Prim.Native.Nat.{ℕ, zero, suc, _+_, _-_, _≤_, _<_}
 use mathlib.Core.Path.{_≡_, refl, ap, sym, _∙_}
 use mathlib.Core.Bool.{Bool, true, false, _&&_}
@@ -9,7 +10,7 @@ use lib.IntN.{ℤ}
 use lib.ListN.{length, length-append}
 use lib.Dec.{leb}
 use borrow.Author.Tests.{le-leb, lt-leb, lt-ltb, le-ltb, leb-true, ne-eqb}
-use Rattle.sim0mq.specs.Answer.{Answer, fine, refused, _>>=_, _>>_, guard}
+use Rattle.sim0mq.specs.Answer.{Answer, fine, refused, _>>=_, _>>_, guard, lengthOf}
 use Rattle.sim0mq.specs.Codes.{widthOf}
 use Rattle.sim0mq.specs.Field.{Field, after}
 use Rattle.sim0mq.specs.Header.{idCodes, countCodes, among, statusTaken, fieldsTaken, frame}
@@ -22,7 +23,7 @@ use Rattle.scalars.specs.Bytes.{bitsOf}
 use Rattle.sim0mq.specs.Table.{placed}
 use Rattle.buffers.specs.Placing.{putIn}
 use Rattle.puts.specs.Placing.{numberText}
-use Rattle.opening.specs.Opening.{idsFrom, holds, headerWith, fitting, headerGiven, lengthOf}
+use Rattle.opening.specs.Opening.{idsFrom, holds, headerWith, fitting, headerGiven}
 use Rattle.opening.specs.Judges.{numbersJudged, openingJudged}
 use Rattle.sim0mq.proofs.PlaceLaws.{placed-length, placed-on}
 use Rattle.buffers.proofs.PlaceLaws.{put-fits}

@@ -10,7 +10,8 @@ use Rattle.sim0mq.specs.Header.{countCodes, among, statusTaken, fieldsTaken}
 use Rattle.sim0mq.specs.Message.{limit}
 use Rattle.opening.specs.Opening.{idsFrom, holds}
 
--- The length of a header whose ids have n bytes, judged after them: status (6), count type (4), count (7), length (8), room (14).
+-- The length of a header whose ids have n bytes, judged after them: status (6), count type (4), count (7), length (8),
+-- room (14).
 unfoldable pub numbersJudged : ℕ → ℕ → ℕ → ℕ → ℕ → Answer ℕ
 numbersJudged n status c fields room = do
   guard (statusTaken status) 6 0

@@ -2,9 +2,10 @@
 ghost use mathlib.Core.Path.{_≡_};
 ghost use Prim.Native.Nat.{_≤_};
 ghost use lib.ListN.{length};
+ghost use Rattle.sim0mq.specs.Answer.{lengthOf};
 ghost use Rattle.sim0mq.specs.Views.{judged};
 ghost use Rattle.sim0mq.specs.Table.{placed};
-ghost use Rattle.opening.specs.Opening.{idsFrom, headerWith, headerGiven, lengthOf, bufferAfter};
+ghost use Rattle.opening.specs.Opening.{idsFrom, headerWith, headerGiven, bufferAfter};
 ghost use Rattle.opening.specs.Judges.{numbersJudged, openingJudged};
 use buffers::put;
 use fields::Fielded;
@@ -18,8 +19,8 @@ use tables::width;
 
 const FRAME_0: [u8; 10] = [9, 0, 0, 0, 5, 83, 73, 77, 48, 49];
 
-// The header of a message, judged and put at the front of `out`: its length. The ids are four encoded frames, and the declared number of fields is a
-// number of type `code`. Refused, `out` is as it was.
+// The header of a message, judged and put at the front of `out`: its length. The ids are four encoded frames, and the
+// declared number of fields is a number of type `code`. Refused, `out` is as it was.
 pub fn write_header(
     ids: &[u8],
     number: i64,
@@ -28,8 +29,14 @@ pub fn write_header(
     fields: usize,
     out: &mut [u8],
 ) -> Judged
-    ensures answer { λ r. ⌜ judged r ≡ lengthOf (headerGiven (now (ids .entry)) number status code fields (length (now (out .entry)))) ⌝ }
-    ensures written { λ _. ⌜ now (out .exit) ≡ bufferAfter (now (out .entry)) 0 (headerGiven (now (ids .entry)) number status code fields (length (now (out .entry)))) ⌝ }
+    ensures answer { λ r. ⌜
+        judged r ≡ lengthOf (headerGiven (now (ids .entry)) number status code fields (length (now (out .entry))))
+        ⌝ }
+    ensures written { λ _. ⌜
+        now (out .exit)
+        ≡ bufferAfter (now (out .entry)) 0
+        (headerGiven (now (ids .entry)) number status code fields (length (now (out .entry))))
+        ⌝ }
 {
     match judge_opening(ids, status, code, fields, out.len()) {
         Judged::Refused(r) => Judged::Refused(r),
@@ -63,7 +70,8 @@ fn id_frames(s: &[u8]) -> Judged
     Judged::Accepted(at)
 }
 
-// The length of a header whose ids have n bytes; or the refusal of its status, its count's type, its count, its length, or the room.
+// The length of a header whose ids have n bytes; or the refusal of its status, its count's type, its count, its length,
+// or the room.
 fn judge_numbers(n: usize, status: u8, code: u8, fields: usize, room: usize) -> Judged
     ensures { λ r. ⌜ judged r ≡ numbersJudged n status code fields room ⌝ }
 {
@@ -107,7 +115,10 @@ fn judge_opening(ids: &[u8], status: u8, code: u8, fields: usize, room: usize) -
 // The header at the front of `out`.
 fn put_header(ids: &[u8], number: i64, status: u8, code: u8, fields: usize, out: &mut [u8])
     requires { ⌜ (code ≤ 2) × (length (headerWith (now ids) number status code fields) ≤ length (now out)) ⌝ }
-    ensures { λ _. ⌜ now (out .exit) ≡ placed (now (out .entry)) 0 (headerWith (now (ids .entry)) number status code fields) ⌝ }
+    ensures { λ _. ⌜
+        now (out .exit)
+        ≡ placed (now (out .entry)) 0 (headerWith (now (ids .entry)) number status code fields)
+        ⌝ }
 {
     put(&FRAME_0, out, 0);
     put(ids, out, 10);

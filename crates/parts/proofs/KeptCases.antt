@@ -1,4 +1,5 @@
--- What is kept, case by case: a field's row is stored where it is asked for and there is room, and what is kept from here on is what is kept of the whole.
+-- What is kept, case by case: a field's row is stored where it is asked for and there is room, and what is kept from
+-- here on is what is kept of the whole.
 use Prim.Native.Nat.{ℕ, zero, suc, _+_, _-_, _*_, _/_, _≤_, _<_}
 use mathlib.Core.Path.{_≡_, refl, ap, sym, _∙_}
 use mathlib.Core.Bool.{Bool, true, false, cond}
@@ -15,7 +16,7 @@ use Rattle.sim0mq.specs.Field.{Field, field, after}
 use Rattle.sim0mq.specs.Payload.{moved}
 use Rattle.sim0mq.specs.Table.{row, rowSize}
 use Rattle.sim0mq.specs.Message.{limit}
-use Rattle.parts.specs.Kept.{first, front, keptOne, keptAll, rowsIn, keptPart}
+use Rattle.parts.specs.Kept.{first, beforeFault, keptOne, keptAll, rowsIn, keptPart}
 
 -- the rows that there are
 pub rows-within : (bytes numbers : ℕ) → bytes ≤ limit → numbers / rowSize ≡ rowsIn bytes numbers
@@ -67,29 +68,29 @@ module _ (many k i : ℕ) (f : Field) (kept : List ℕ) where
 
 -- the fields before the first fault
 module _ (s : List ℕ) (at : ℕ) where
-  pub front-none : (n : ℕ) → n ≡ 0 → front s n at ≡ []
-  unfolding front
+  pub front-none : (n : ℕ) → n ≡ 0 → beforeFault s n at ≡ []
+  unfolding beforeFault
   front-none n e = simp e
 
-  pub front-stop : (n r p : ℕ) → field s at ≡ refused r p → front s n at ≡ []
-  unfolding front first
+  pub front-stop : (n r p : ℕ) → field s at ≡ refused r p → beforeFault s n at ≡ []
+  unfolding beforeFault first
   front-stop zero r p q = refl
   front-stop (suc n) r p q = simp q
 
-  pub front-more : (n m : ℕ) (f : Field) → n ≡ m + 1 → field s at ≡ fine f → front s n at ≡ f ∷ front s m (after f)
-  unfolding front first
+  pub front-more : (n m : ℕ) (f : Field) → n ≡ m + 1 → field s at ≡ fine f → beforeFault s n at ≡ f ∷ beforeFault s m (after f)
+  unfolding beforeFault first
   front-more n m f e q = simp (e, add-one m, q)
 
 -- at first no field was passed
 pub kept-start : (s : List ℕ) (base n k many : ℕ) (kept : List ℕ) → many ≡ rowsIn (base + length s) (length kept)
-    → keptPart s base n k kept ≡ keptAll many k (n - n) (map (moved base) (front s n 0)) kept
+    → keptPart s base n k kept ≡ keptAll many k (n - n) (map (moved base) (beforeFault s n 0)) kept
 unfolding keptPart
 kept-start s base n k many kept e = let none : 0 ≡ n - n = omega arith in rw (e, ← none) refl
 
 -- what is kept from here on
 module _ (s : List ℕ) (base many k : ℕ) (all kept : List ℕ) (left at i : ℕ)
-    (whole : all ≡ keptAll many k i (map (moved base) (front s left at)) kept) where
-  nothing : front s left at ≡ [] → kept ≡ all
+    (whole : all ≡ keptAll many k i (map (moved base) (beforeFault s left at)) kept) where
+  nothing : beforeFault s left at ≡ [] → kept ≡ all
   unfolding keptAll
   nothing e = sym (whole ∙ simp e)
 
@@ -101,7 +102,7 @@ module _ (s : List ℕ) (base many k : ℕ) (all kept : List ℕ) (left at i : �
 
   pub kept-more : (m j end : ℕ) (f g : Field) (next : List ℕ) → left ≡ m + 1 → field s at ≡ fine f → after f ≡ end → j ≡ i + 1 → g ≡ f
       → next ≡ keptOne many k i (moved base g) kept
-      → (all ≡ keptAll many k j (map (moved base) (front s m end)) next) × (length next ≡ length kept)
+      → (all ≡ keptAll many k j (map (moved base) (beforeFault s m end)) next) × (length next ≡ length kept)
   unfolding keptAll
   kept-more m j end f g next e q d c same n =
       (whole ∙ simp (front-more s at left m f e q) (sym (rw (n, c, same, ← d))), ap length n ∙ kept-long many k i (moved base g) kept)

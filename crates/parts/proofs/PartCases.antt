@@ -1,4 +1,5 @@
--- How a part's judge goes on from a place, case by case, with the steps counted so far: what the two loops of the code cite.
+-- How a part's judge goes on from a place, case by case, with the steps counted so far: what the two loops of the code
+-- cite.
 use Prim.Native.Nat.{ℕ, zero, suc, _+_, _-_, _*_, _≤_, _<_}
 use mathlib.Core.Path.{_≡_, refl, ap, _∙_, subst}
 use mathlib.Core.List.{List, _∷_}

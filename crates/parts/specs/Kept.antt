@@ -16,9 +16,9 @@ unfoldable pub first : Answer Field → (Field → List Field) → List Field
 first (fine f) others = f ∷ others f
 first (refused k p) others = []
 
-unfoldable pub front : List ℕ → ℕ → ℕ → List Field
-front s zero at = []
-front s (suc n) at = first (field s at) (λ f. front s n (after f))
+unfoldable pub beforeFault : List ℕ → ℕ → ℕ → List Field
+beforeFault s zero at = []
+beforeFault s (suc n) at = first (field s at) (λ f. beforeFault s n (after f))
 
 -- Field i is kept in row i - k, where there are so many rows; a field before field k is not kept.
 unfoldable pub keptOne : ℕ → ℕ → ℕ → Field → List ℕ → List ℕ
@@ -36,7 +36,7 @@ rowsIn bytes numbers = cond (leb bytes limit) (numbers / rowSize) 0
 
 -- What is kept, from field k on, of a part s of n fields that begins at place `base` of its message.
 unfoldable pub keptPart : List ℕ → ℕ → ℕ → ℕ → List ℕ → List ℕ
-keptPart s base n k kept = keptAll (rowsIn (base + length s) (length kept)) k 0 (map (moved base) (front s n 0)) kept
+keptPart s base n k kept = keptAll (rowsIn (base + length s) (length kept)) k 0 (map (moved base) (beforeFault s n 0)) kept
 
 -- A field's numbers fit 32 bits.
 pub record Small (base : ℕ) (f : Field) : Type 0 where

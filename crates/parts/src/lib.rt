@@ -37,7 +37,10 @@ fn store(kept: &mut [u32], i: usize, base: usize, f: Field)
 
 // What is known of the field at `at` that has this head, with so many value bytes from `first` on.
 fn found(h: Asked, at: usize, first: usize, size: usize) -> Field
-    ensures { λ r. ⌜ seen r ≡ record { code = h .code; place = at; first = first; size = size; marked = h .marked; values = h .values } ⌝ }
+    ensures { λ r. ⌜
+        seen r
+        ≡ record { code = h .code; place = at; first = first; size = size; marked = h .marked; values = h .values }
+        ⌝ }
 {
     Field {
         code: h.code,
@@ -76,8 +79,9 @@ fn rows(base: usize, bytes: usize, numbers: usize) -> usize
     0
 }
 
-// The part s of n fields, which begins at place `base` of its message: its steps, one for each field and each mark, and no more than its bytes; or the refusal,
-// with its place in the part. The rows of the fields from field k on are kept, as far as there is room, up to the first fault.
+// The part s of n fields, which begins at place `base` of its message: its steps, one for each field and each mark, and
+// no more than its bytes; or the refusal, with its place in the part. The rows of the fields from field k on are kept,
+// as far as there is room, up to the first fault.
 pub fn part(s: &[u8], base: usize, n: usize, k: usize, kept: &mut [u32]) -> Judged
     ensures answer { λ r. ⌜ (judged r ≡ partSteps (now (s .entry)) n) × Below (length (now (s .entry)) + 1) r ⌝ }
     ensures kept { λ _. ⌜ now (kept .exit) ≡ keptPart (now (s .entry)) base n k (now (kept .entry)) ⌝ }

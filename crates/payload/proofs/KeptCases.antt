@@ -1,16 +1,17 @@
--- What is kept of a payload is what is kept of the part that it is; past the message's end there is no part, and nothing is kept.
+-- What is kept of a payload is what is kept of the part that it is; past the message's end there is no part, and
+-- nothing is kept.
 use Prim.Native.Nat.{ℕ, _+_, _≤_, _<_}
 use mathlib.Core.Path.{_≡_, refl}
 use mathlib.Core.List.{List, []}
 use native.Mathlib.Omega.{arith}
 use lib.ListN.{length, drop, length-drop, drop-of-length-le}
 use Rattle.sim0mq.specs.Field.{head, outline, field}
-use Rattle.parts.specs.Kept.{front, keptAll, keptPart}
+use Rattle.parts.specs.Kept.{beforeFault, keptAll, keptPart}
 use Rattle.parts.proofs.KeptCases.{front-stop}
 use Rattle.payload.specs.Kept.{keptOf}
 
 -- of no bytes there is no field, so past the message's end nothing is kept
-front-nothing : (n : ℕ) → front [] n 0 ≡ []
+front-nothing : (n : ℕ) → beforeFault [] n 0 ≡ []
 unfolding field outline head
 front-nothing n = front-stop [] 0 n 1 0 refl
 

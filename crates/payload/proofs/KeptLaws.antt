@@ -1,4 +1,5 @@
--- Of an accepted payload all that was asked for is kept: its fields are those before the first fault, and rows stored one after the other are all stored.
+-- Of an accepted payload all that was asked for is kept: its fields are those before the first fault, and rows stored
+-- one after the other are all stored.
 use Prim.Native.Nat.{ℕ, zero, suc, _+_, _*_, _-_, _/_, _≤_, zero-le}
 use mathlib.Core.Path.{_≡_, refl, ap, sym, _∙_}
 use mathlib.Core.Bool.{Bool, true, false}
@@ -15,7 +16,7 @@ use Rattle.sim0mq.specs.Table.{row, rowSize, rows, stored}
 use Rattle.sim0mq.specs.Message.{limit}
 use Rattle.sim0mq.proofs.Answers.{bind-fine, guarded, fine-eq}
 use borrow.Author.Tests.{leb-true}
-use Rattle.parts.specs.Kept.{front, keptOne, keptAll, rowsIn}
+use Rattle.parts.specs.Kept.{beforeFault, keptOne, keptAll, rowsIn}
 use Rattle.payload.specs.Kept.{keptOf}
 use Rattle.parts.proofs.KeptCases.{rows-within, front-more, kept-here, kept-long}
 
@@ -35,17 +36,17 @@ stored-turn : (table next some rest : List ℕ) (i : ℕ) → i + length some �
     → storedFrom table i (some ++ rest) ≡ storedFrom next (i + length some) rest
 unfolding storedFrom
 stored-turn table next some rest i h e =
-    let front = take i table ++ some in
+    let beforeFault = take i table ++ some in
     let tail = drop (i + length some) table in
-    let split : next ≡ front ++ tail = e ∙ sets-eq some table i h in
-    let long : length front ≡ i + length some
+    let split : next ≡ beforeFault ++ tail = e ∙ sets-eq some table i h in
+    let long : length beforeFault ≡ i + length some
     = length-append (take i table) some ∙ ap (λ (k : ℕ). k + length some) (length-take-le i table (omega arith)) in
-    let before : take (i + length some) next ≡ front = rw split (take-at front tail (i + length some) long) in
-    let place : i + length some + length rest ≡ length front + length rest = ap (λ (k : ℕ). k + length rest) (sym long) in
+    let before : take (i + length some) next ≡ beforeFault = rw split (take-at beforeFault tail (i + length some) long) in
+    let place : i + length some + length rest ≡ length beforeFault + length rest = ap (λ (k : ℕ). k + length rest) (sym long) in
     let past : drop (i + length some + length rest) next ≡ drop (i + length some + length rest) table
     =
     ap (λ (k : ℕ). drop k next) place
-    ∙ rw split (drop-append-add front tail (length rest))
+    ∙ rw split (drop-append-add beforeFault tail (length rest))
     ∙ drop-drop (length rest) (i + length some) table in
     let all : i + length (some ++ rest) ≡ i + length some + length rest = omega (arith, length-append some rest) in
     rw (before, past, all) (rw (append-assoc some rest, append-assoc (take i table) some) refl)
@@ -64,8 +65,8 @@ module _ (s : List ℕ) where
       let b = bind-fine (payloadFrom s n (after (a .0))) _ (a .2) in
       ap length (sym (fine-eq (b .2))) ∙ ap suc (many-from n (after (a .0)) (b .0) (b .1))
 
-  front-from : (n at : ℕ) (fs : List Field) → payloadFrom s n at ≡ fine fs → front s n at ≡ fs
-  unfolding payloadFrom front
+  front-from : (n at : ℕ) (fs : List Field) → payloadFrom s n at ≡ fine fs → beforeFault s n at ≡ fs
+  unfolding payloadFrom beforeFault
   front-from zero at fs q = none fs (many-from zero at fs q)
     where
       none : (fs : List Field) → length fs ≡ 0 → [] ≡ fs
@@ -82,7 +83,7 @@ module _ (s : List ℕ) where
   unfolding payload
   payload-many n fs q = many-from n 0 fs q
 
-  pub front-accepted : (n : ℕ) (fs : List Field) → payload s n ≡ fine fs → front s n 0 ≡ fs
+  pub front-accepted : (n : ℕ) (fs : List Field) → payload s n ≡ fine fs → beforeFault s n 0 ≡ fs
   unfolding payload
   front-accepted n fs q = front-from n 0 fs q
 

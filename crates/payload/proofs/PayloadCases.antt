@@ -1,4 +1,5 @@
--- How the payload that begins at a place of a message is judged, case by case: as the part that it is, with its refusal moved, and past the message's end by 1.
+-- How the payload that begins at a place of a message is judged, case by case: as the part that it is, with its refusal
+-- moved, and past the message's end by 1.
 use Prim.Native.Nat.{ℕ, _+_, _-_, _≤_, _<_, zero-le}
 use mathlib.Core.Path.{_≡_, refl, ap, sym, _∙_, subst}
 use mathlib.Core.List.{List}

@@ -10,10 +10,14 @@ use parts::part;
 use sim0mq::Judged;
 use sim0mq::Refusal;
 
-// The payload of n fields that begins at `next` of the message: its steps, one for each field and each mark, and no more than the message's bytes; or the
-// refusal. The rows of the fields from field k on are kept, as far as there is room, up to the first fault.
+// The payload of n fields that begins at `next` of the message: its steps, one for each field and each mark, and no
+// more than the message's bytes; or the refusal. The rows of the fields from field k on are kept, as far as there is
+// room, up to the first fault.
 pub fn payload(message: &[u8], next: usize, n: usize, k: usize, kept: &mut [u32]) -> Judged
-    ensures answer { λ r. ⌜ (judged r ≡ payloadSteps (now (message .entry)) next n) × Below (length (now (message .entry)) + 1) r ⌝ }
+    ensures answer { λ r. ⌜
+        (judged r ≡ payloadSteps (now (message .entry)) next n)
+        × Below (length (now (message .entry)) + 1) r
+        ⌝ }
     ensures kept { λ _. ⌜ now (kept .exit) ≡ keptOf (now (message .entry)) next n k (now (kept .entry)) ⌝ }
 {
     if message.len() < next {

@@ -1,12 +1,13 @@
 // Pieces of text put into a lent buffer, one after the other.
 //
-// Each call answers the place where the next piece goes. A piece that does not fit leaves the place past the buffer, and so does each piece after it,
-// so that one test at the end tells whether the whole text is there.
+// Each call answers the place where the next piece goes. A piece that does not fit leaves the place past the buffer,
+// and so does each piece after it, so that one test at the end tells whether the whole text is there.
 ghost use mathlib.Core.Path.{_≡_};
 ghost use Rattle.pieces.specs.Put.{placeAfter, withText};
 ghost use Rattle.pieces.specs.Decimal.{decimal};
 
-// The place after `text`, put from `from` on; one past the end of `out`, which is left as it was, where the text does not fit.
+// The place after `text`, put from `from` on; one past the end of `out`, which is left as it was, where the text does
+// not fit.
 pub fn put(text: &[u8], out: &mut [u8], from: usize) -> usize
     ensures { λ r. ⌜ r ≡ placeAfter (now (out .entry)) from (now (text .entry)) ⌝ }
     ensures { λ _. ⌜ now (out .exit) ≡ withText (now (out .entry)) from (now (text .entry)) ⌝ }

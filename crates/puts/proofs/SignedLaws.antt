@@ -1,4 +1,5 @@
--- The bits that the code works out for a signed number are those of the definition, since its two tests are the definition's cases.
+-- The bits that the code works out for a signed number are those of the definition, since its two tests are the
+-- definition's cases.
 use Prim.Native.Nat.{ℕ, _-_, _<_, _≤_, _^_}
 use mathlib.Core.Path.{_≡_, refl, sym, ap, _∙_}
 use mathlib.Core.Bool.{true, false, true≢false}

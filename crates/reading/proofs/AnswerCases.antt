@@ -29,7 +29,7 @@ use Rattle.header.specs.declared.Frame.{Frame}
 use Rattle.header.specs.Frames.{framed}
 use Rattle.reading.specs.declared.Reading.the-variants.{Accepted}
 use Rattle.reading.specs.Rows.{rowsAfter, filled, Fillable}
-use Rattle.front.specs.Front.{opening}
+use Rattle.front.specs.Front.{frontOf}
 use Rattle.front.proofs.FrontCases.{reading-closed, open-parts, open-within, open-reading, open-refused, open-accepted}
 use Rattle.reading.specs.Answers.{answered, refusedAt, answerOf}
 
@@ -50,15 +50,15 @@ below-most n (Judged·Refused r) h b = tt
 
 -- where what stands before the payload is refused
 module _ (lent : M.Lent) (s : List ℕ) where
-  pub closed-answer : (k p : ℕ) → opening lent s ≡ refused k p → refusedAt k p ≡ answered (reading lent s)
+  pub closed-answer : (k p : ℕ) → frontOf lent s ≡ refused k p → refusedAt k p ≡ answered (reading lent s)
   closed-answer k p e = sym (ap answered (reading-closed lent s k p e))
 
-  pub closed-table : (t : List ℕ) (k p : ℕ) → opening lent s ≡ refused k p → t ≡ tableAfter t (reading lent s)
+  pub closed-table : (t : List ℕ) (k p : ℕ) → frontOf lent s ≡ refused k p → t ≡ tableAfter t (reading lent s)
   unfolding tableAfter
   closed-table t k p e = sym (ap (tableAfter t) (reading-closed lent s k p e))
 
   -- where it is not
-  module _ (h : Header) (a : opening lent s ≡ fine h) where
+  module _ (h : Header) (a : frontOf lent s ≡ fine h) where
     counts : (fs : List Field) (k : ℕ) → steps fs ≡ k → 8 + k ≡ stepsOf (readingOf s h fs)
     unfolding stepsOf
     counts fs k e = rw (header-eight s h (open-parts lent s h a .1), steps-moved (h .next) fs, e)

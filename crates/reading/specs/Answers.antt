@@ -27,7 +27,8 @@ abbrev pub answered : S.Answer M.Reading → Answer
 answered (fine m) = record { said = Accepted (foundIn m); frames = map framed (m .frames) }
 answered (refused k p) = refusedAt k p
 
--- The answer of a message of so many bytes that has these frames and so many fields, where this is what its payload's reader says.
+-- The answer of a message of so many bytes that has these frames and so many fields, where this is what its payload's
+-- reader says.
 abbrev pub answerOf : ℕ → List Frame → ℕ → S.Answer ℕ → Answer
 answerOf bytes frames n (fine k) = record { said = Accepted (record { length = bytes; fields = n; steps = 8 + k }); frames = frames }
 answerOf bytes frames n (refused k p) = refusedAt k p

@@ -17,7 +17,8 @@ rowsAfter table base (refused k p) = table
 unfoldable pub filled : List ℕ → ℕ → ℕ → List ℕ → List ℕ
 filled s next n table = rowsAfter table next (payload (drop next s) n)
 
--- A message within the limit, in which the payload begins at `next`; and room for n rows, both where they are kept and in the table.
+-- A message within the limit, in which the payload begins at `next`; and room for n rows, both where they are kept and
+-- in the table.
 pub record Fillable (s : List ℕ) (next n kept table : ℕ) : Type 0 where
   pub short : length s ≤ limit
   pub within : next ≤ length s

@@ -58,10 +58,14 @@ fn copied(kept: &[u32], n: usize, table: &mut [u32])
     }
 }
 
-// Judges the payload of n fields that begins at `next`, and stores its rows in the table once it is accepted; `kept` holds them until then.
+// Judges the payload of n fields that begins at `next`, and stores its rows in the table once it is accepted; `kept`
+// holds them until then.
 fn filled_by(message: &[u8], next: usize, n: usize, kept: &mut [u32], table: &mut [u32]) -> Judged
     requires { ⌜ Fillable (now message) next n (length (now kept)) (length (now table)) ⌝ }
-    ensures answer { λ r. ⌜ (judged r ≡ payloadSteps (now (message .entry)) next n) × Below (length (now (message .entry)) + 1) r ⌝ }
+    ensures answer { λ r. ⌜
+        (judged r ≡ payloadSteps (now (message .entry)) next n)
+        × Below (length (now (message .entry)) + 1) r
+        ⌝ }
     ensures stored { λ _. ⌜ now (table .exit) ≡ filled (now (message .entry)) next n (now (table .entry)) ⌝ }
 {
     match payload(message, next, n, 0, kept) {
@@ -76,7 +80,10 @@ fn filled_by(message: &[u8], next: usize, n: usize, kept: &mut [u32], table: &mu
 // Judges the payload of n fields that begins at `next`, and stores its rows in the table once it is accepted.
 fn fill(message: &[u8], next: usize, n: usize, table: &mut [u32]) -> Judged
     requires { ⌜ Fillable (now message) next n (256 * rowSize) (length (now table)) ⌝ }
-    ensures answer { λ r. ⌜ (judged r ≡ payloadSteps (now (message .entry)) next n) × Below (length (now (message .entry)) + 1) r ⌝ }
+    ensures answer { λ r. ⌜
+        (judged r ≡ payloadSteps (now (message .entry)) next n)
+        × Below (length (now (message .entry)) + 1) r
+        ⌝ }
     ensures stored { λ _. ⌜ now (table .exit) ≡ filled (now (message .entry)) next n (now (table .entry)) ⌝ }
 {
     if n <= 8 {
@@ -87,7 +94,8 @@ fn fill(message: &[u8], next: usize, n: usize, table: &mut [u32]) -> Judged
     filled_by(message, next, n, &mut all, table)
 }
 
-// The answer of a message of so many bytes that has these frames and so many fields, where this is what its payload's reader says.
+// The answer of a message of so many bytes that has these frames and so many fields, where this is what its payload's
+// reader says.
 fn told_by(bytes: usize, frames: [Frame; 8], fields: usize, said: Judged) -> Answer
     requires { ⌜ Below (limit + 1) said ⌝ }
     ensures { λ r. ⌜ r ≡ answerOf bytes frames fields (judged said) ⌝ }
@@ -108,7 +116,10 @@ fn told_by(bytes: usize, frames: [Frame; 8], fields: usize, said: Judged) -> Ans
 // Reads the message, and stores its rows in the table once it is accepted.
 pub fn read(message: &[u8], table: &mut [u32]) -> Answer
     ensures answer { λ r. ⌜ r ≡ answered (readingOf (tableOf (length (now (table .entry)))) (now (message .entry))) ⌝ }
-    ensures stored { λ r. ⌜ now (table .exit) ≡ tableAfter (now (table .entry)) (readingOf (tableOf (length (now (table .entry)))) (now (message .entry))) ⌝ }
+    ensures stored { λ r. ⌜
+        now (table .exit)
+        ≡ tableAfter (now (table .entry)) (readingOf (tableOf (length (now (table .entry)))) (now (message .entry)))
+        ⌝ }
 {
     let o = opened(message, Lent::Table(table.len()));
     let said = o.said;

@@ -98,7 +98,10 @@ fn put_place(table: &mut [u32], k: usize, m: Placed)
 // The starts and the lengths that the index of this trailer states, at the front of a table that has room for them.
 fn store(s: &[u8], t: Trailer, table: &mut [u32])
     requires { ⌜ Stated (now s) t × (placeSize * t .entries ≤ length (now table)) ⌝ }
-    ensures { λ _. ⌜ now (table .exit) ≡ stored (now (table .entry)) (places 0 (lengthsIn (indexOf (now (s .entry))))) ⌝ }
+    ensures { λ _. ⌜
+        now (table .exit)
+        ≡ stored (now (table .entry)) (places 0 (lengthsIn (indexOf (now (s .entry)))))
+        ⌝ }
 {
     let mut k: usize = 0;
     while k < t.entries {
@@ -121,7 +124,10 @@ pub fn open(s: &[u8]) -> Judged
 // Opens a recording, and stores where each message stands, its start and its length, once all are accepted.
 pub fn open_into(s: &[u8], table: &mut [u32]) -> Judged
     ensures answer { λ r. ⌜ judged r ≡ countOf (opening (tableOf (length (now (table .entry)))) (now (s .entry))) ⌝ }
-    ensures stored { λ _. ⌜ now (table .exit) ≡ placesAfter (now (table .entry)) (opening (tableOf (length (now (table .entry)))) (now (s .entry))) ⌝ }
+    ensures stored { λ _. ⌜
+        now (table .exit)
+        ≡ placesAfter (now (table .entry)) (opening (tableOf (length (now (table .entry)))) (now (s .entry)))
+        ⌝ }
 {
     match index(s) {
         Trailed::Wrong => sim0mq::refuse(18, 0),

@@ -53,8 +53,8 @@ demanded m (found, q) =
       reads = q;
       allowed = accepts-what-is-allowed noTable m (λ h e. refl) .0 (found, q);
       covers = fields-cover-the-payload noTable m found q;
-      blank = copy-is-blank m found q;
-      alike = copy-is-read-alike m found q;
+      blank = copy-is-blank noTable m found q;
+      alike = copy-is-read-alike noTable m found q;
     }
 
 each-demanded : (least : ℕ) (ms : List (List ℕ)) → least ≤ limit → Each (Taken least) ms → Each Demanded ms

@@ -10,7 +10,7 @@ use Rattle.sim0mq.specs.Field.{count, counts, markCount, headRest, head, boolea
 use Rattle.sim0mq.specs.Payload.{payloadFrom, payload, moved, steps}
 use Rattle.sim0mq.specs.Header.{among, statusTaken, fieldsTaken, literal, digit, magic, frame, status, declared, header}
 use Rattle.sim0mq.specs.Message.{noTable, limit, enough, messageRest, message}
-use Rattle.sim0mq.specs.Examples.{front, sample}
+use Rattle.sim0mq.specs.Examples.{headerOfS, sample}
 use Rattle.scalars.specs.Bytes.{bigBytes}
 use Rattle.dividing.specs.Run.{total}
 use Rattle.recordings_format.specs.Edition.{first, second, editionIn, mostMessages, trailerSize}
@@ -19,12 +19,12 @@ use Rattle.recordings_format.specs.Judge.{trailerFrom, trailer, entriesF
 
 -- S and S again, their index, and the trailer: 176 bytes.
 unfoldable pub twice : List ℕ
-unfolding sample front
+unfolding sample headerOfS
 twice = recordingText first (sample ∷ sample ∷ [])
 
 -- The same in the second edition, whose entries have 8 bytes: 180 bytes, of which the last two are the edition's.
 unfoldable pub twiceLong : List ℕ
-unfolding sample front
+unfolding sample headerOfS
 twiceLong = recordingText second (sample ∷ sample ∷ [])
 
 -- What opening comes to: the messages' lengths, or the refusal.
@@ -36,7 +36,7 @@ lengthsOf (refused k p) = refused k p
 pub twice-ends :
     drop 154 twice
     ≡ 0 ∷ 0 ∷ 0 ∷ 0 ∷ 0 ∷ 77 ∷ 0 ∷ 0 ∷ 0 ∷ 77 ∷ 0 ∷ 77 ∷ 0 ∷ 0 ∷ 0 ∷ 154 ∷ 0 ∷ 0 ∷ 0 ∷ 2 ∷ 0 ∷ 1 ∷ []
-unfolding twice sample front indexText bigBytes total flatMap
+unfolding twice sample headerOfS indexText bigBytes total flatMap
 twice-ends = refl
 
 -- Opened: it, and the recording of no message. No bytes at all; one byte too few; a byte between the messages; the
@@ -80,7 +80,7 @@ pub examples-hold :
     ∷ refused 18 0
     ∷ []
 unfolding
-    flatMap twice twiceLong sample front indexText bigBytes total editionIn mostMessages trailerSize trailerFrom trailer entriesFrom index stretch stretchesFrom roomy opening
+    flatMap twice twiceLong sample headerOfS indexText bigBytes total editionIn mostMessages trailerSize trailerFrom trailer entriesFrom index stretch stretchesFrom roomy opening
     message messageRest enough limit
     header declared status frame magic digit literal among statusTaken fieldsTaken payload payloadFrom moved steps
     field outline after booleans booleansOf head headRest counts count markCount mark marks markRest display currency kindOf currencyTaken
@@ -91,7 +91,7 @@ examples-hold = refl
 pub asking-examples-hold :
     map (asking (set twice 64 4)) (0 ∷ 1 ∷ 2 ∷ []) ≡ refused 6 64 ∷ fine (record { start = 77; size = 77 }) ∷ refused 16 0 ∷ []
 unfolding
-    flatMap twice sample front indexText bigBytes total editionIn mostMessages trailerSize trailerFrom trailer entriesFrom index stretch asking
+    flatMap twice sample headerOfS indexText bigBytes total editionIn mostMessages trailerSize trailerFrom trailer entriesFrom index stretch asking
     message messageRest enough limit
     header declared status frame magic digit literal among statusTaken fieldsTaken payload payloadFrom moved steps
     field outline after booleans booleansOf head headRest counts count markCount mark marks markRest display currency kindOf currencyTaken

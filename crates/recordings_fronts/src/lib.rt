@@ -60,7 +60,10 @@ pub struct Divided {
 // them what it held.
 pub fn divide(s: &[u8], lengths: &mut [u32]) -> Divided
     ensures answer { λ r. ⌜ r ≡ dividedOf (runFrom limit (length (now (lengths .entry))) (now (s .entry)) 0) ⌝ }
-    ensures kept { λ _. ⌜ now (lengths .exit) ≡ stored (now (lengths .entry)) (runFrom limit (length (now (lengths .entry))) (now (s .entry)) 0 .lengths) ⌝ }
+    ensures kept { λ _. ⌜
+        now (lengths .exit)
+        ≡ stored (now (lengths .entry)) (runFrom limit (length (now (lengths .entry))) (now (s .entry)) 0 .lengths)
+        ⌝ }
 {
     let mut at: usize = 0;
     let mut k: usize = 0;

@@ -33,7 +33,11 @@ pub enum Salvaged {
 fn save(file: &[u8], d: Divided, lengths: &[u32], out: &mut [u8]) -> Salvaged
     requires { ⌜ Saveable (now file) d (now lengths) ⌝ }
     ensures answer { λ r. ⌜ r ≡ salvagedAs (salvageOf newest (length (now (out .entry))) (now (file .entry))) ⌝ }
-    ensures written { λ _. ⌜ now (out .exit) ≡ outputAfter newest (now (file .entry)) (now (out .entry)) (salvageOf newest (length (now (out .entry))) (now (file .entry))) ⌝ }
+    ensures written { λ _. ⌜
+        now (out .exit)
+        ≡ outputAfter newest (now (file .entry)) (now (out .entry))
+        (salvageOf newest (length (now (out .entry))) (now (file .entry)))
+        ⌝ }
 {
     let n = d.count;
     let end = d.end;
@@ -57,7 +61,11 @@ fn save(file: &[u8], d: Divided, lengths: &[u32], out: &mut [u8]) -> Salvaged
 // the recording; refused, `out` is as it was.
 pub fn salvage(file: &[u8], out: &mut [u8]) -> Salvaged
     ensures answer { λ r. ⌜ r ≡ salvagedAs (salvageOf newest (length (now (out .entry))) (now (file .entry))) ⌝ }
-    ensures written { λ _. ⌜ now (out .exit) ≡ outputAfter newest (now (file .entry)) (now (out .entry)) (salvageOf newest (length (now (out .entry))) (now (file .entry))) ⌝ }
+    ensures written { λ _. ⌜
+        now (out .exit)
+        ≡ outputAfter newest (now (file .entry)) (now (out .entry))
+        (salvageOf newest (length (now (out .entry))) (now (file .entry)))
+        ⌝ }
 {
     let mut lengths = [0u32; MOST];
     let d = divide(file, &mut lengths);

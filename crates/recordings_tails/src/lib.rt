@@ -82,8 +82,13 @@ fn put_trailer(out: &mut [u8], p: usize, place: usize, n: usize)
 // length. Or 15 at 0, where the lengths are too many, one is too long or they do not come to `at`, then 14 at 0, where
 // `out` has no room; refused, `out` is as it was.
 pub fn put_tail(lengths: &[u32], out: &mut [u8], at: usize) -> Judged
-    ensures answer { λ r. ⌜ judged r ≡ lengthAfter at (tailing newest (now (lengths .entry)) at (length (now (out .entry)))) ⌝ }
-    ensures written { λ _. ⌜ now (out .exit) ≡ bufferAfter (now (out .entry)) at (tailing newest (now (lengths .entry)) at (length (now (out .entry)))) ⌝ }
+    ensures answer { λ r. ⌜
+        judged r ≡ lengthAfter at (tailing newest (now (lengths .entry)) at (length (now (out .entry))))
+        ⌝ }
+    ensures written { λ _. ⌜
+        now (out .exit)
+        ≡ bufferAfter (now (out .entry)) at (tailing newest (now (lengths .entry)) at (length (now (out .entry))))
+        ⌝ }
 {
     let n = lengths.len();
     if MOST < n {

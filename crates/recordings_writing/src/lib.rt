@@ -56,7 +56,11 @@ fn usable(w: Recorder, room: usize) -> bool
 fn append(w: Recorder, text: &[u8], out: &mut [u8]) -> Recorded
     requires { ⌜ (usableIn w (length (now out)) ≡ true) × (w .messages < mostMessages) ⌝ }
     ensures answer { λ r. ⌜ r ≡ afterAdding w (roomFor (w .written) (length (now (out .entry))) (now (text .entry))) ⌝ }
-    ensures written { λ _. ⌜ now (out .exit) ≡ bufferAfter (now (out .entry)) (w .written) (roomFor (w .written) (length (now (out .entry))) (now (text .entry))) ⌝ }
+    ensures written { λ _. ⌜
+        now (out .exit)
+        ≡ bufferAfter (now (out .entry)) (w .written)
+        (roomFor (w .written) (length (now (out .entry))) (now (text .entry)))
+        ⌝ }
 {
     let at = w.written;
     if out.len() - at < text.len() {
@@ -78,8 +82,15 @@ fn append(w: Recorder, text: &[u8], out: &mut [u8]) -> Recorded
 // and closes the state: the bytes written then; or the refusal of putting them.
 fn finish(w: Recorder, lengths: &[u32], out: &mut [u8]) -> Recorded
     requires { ⌜ w .messages ≤ length (now lengths) ⌝ }
-    ensures answer { λ r. ⌜ r ≡ afterClosing w (tailing newest (take (w .messages) (now (lengths .entry))) (w .written) (length (now (out .entry)))) ⌝ }
-    ensures written { λ _. ⌜ now (out .exit) ≡ bufferAfter (now (out .entry)) (w .written) (tailing newest (take (w .messages) (now (lengths .entry))) (w .written) (length (now (out .entry)))) ⌝ }
+    ensures answer { λ r. ⌜
+        r ≡ afterClosing w
+        (tailing newest (take (w .messages) (now (lengths .entry))) (w .written) (length (now (out .entry))))
+        ⌝ }
+    ensures written { λ _. ⌜
+        now (out .exit)
+        ≡ bufferAfter (now (out .entry)) (w .written)
+        (tailing newest (take (w .messages) (now (lengths .entry))) (w .written) (length (now (out .entry))))
+        ⌝ }
 {
     let n = w.messages;
     match put_tail(&lengths[..n], out, w.written) {
@@ -111,8 +122,14 @@ impl Recorder {
     // state that is closed, past its buffer or full, then the message's own refusal, placed within it, then 14 where it
     // has no room; refused, the buffer is as it was, and so is the state.
     pub fn add(self, message: &[u8], out: &mut [u8]) -> Recorded
-        ensures answer { λ r. ⌜ r ≡ afterAdding self (adding newest self (length (now (out .entry))) (now (message .entry))) ⌝ }
-        ensures written { λ _. ⌜ now (out .exit) ≡ bufferAfter (now (out .entry)) (self .written) (adding newest self (length (now (out .entry))) (now (message .entry))) ⌝ }
+        ensures answer { λ r. ⌜
+            r ≡ afterAdding self (adding newest self (length (now (out .entry))) (now (message .entry)))
+            ⌝ }
+        ensures written { λ _. ⌜
+            now (out .exit)
+            ≡ bufferAfter (now (out .entry)) (self .written)
+            (adding newest self (length (now (out .entry))) (now (message .entry)))
+            ⌝ }
     {
         if !usable(self, out.len()) {
             return refused(15, 0, self);
@@ -133,7 +150,10 @@ impl Recorder {
     // where there is no room; refused, the buffer is as it was, and so is the state.
     pub fn close(self, out: &mut [u8]) -> Recorded
         ensures answer { λ r. ⌜ r ≡ afterClosing self (closing newest self (now (out .entry))) ⌝ }
-        ensures written { λ _. ⌜ now (out .exit) ≡ bufferAfter (now (out .entry)) (self .written) (closing newest self (now (out .entry))) ⌝ }
+        ensures written { λ _. ⌜
+            now (out .exit)
+            ≡ bufferAfter (now (out .entry)) (self .written) (closing newest self (now (out .entry)))
+            ⌝ }
     {
         if !usable(self, out.len()) {
             return refused(15, 0, self);

@@ -1,4 +1,5 @@
--- A header frame after the ids is its code and one number, since the types that frames 5 to 7 may have ask for no count and no mark.
+-- A header frame after the ids is its code and one number, since the types that frames 5 to 7 may have ask for no count
+-- and no mark.
 use Prim.Native.Nat.{ℕ}
 use mathlib.Core.Path.{_≡_, refl, ap, ap₂, _∙_}
 use mathlib.Core.Bool.{Bool, true, false, not, _&&_}

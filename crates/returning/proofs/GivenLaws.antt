@@ -1,4 +1,5 @@
--- What adding is given is one field that the manual allows: an encoded field is judged as a payload of one, and a scalar is written as a field.
+-- What adding is given is one field that the manual allows: an encoded field is judged as a payload of one, and a
+-- scalar is written as a field.
 use Prim.Native.Nat.{ℕ, _+_, _-_, zero-le}
 use mathlib.Core.Path.{_≡_, refl, ap, ap₂, sym, _∙_, subst}
 use mathlib.Core.List.{List, [], _∷_, _++_, map, flatMap, append-nil}

@@ -1,5 +1,5 @@
--- At every point of a history the buffer holds the header and the fields that were granted, by induction over the calls: a granted adding places its
--- field right after what was written, and a refused call changes nothing.
+-- At every point of a history the buffer holds the header and the fields that were granted, by induction over the
+-- calls: a granted adding places its field right after what was written, and a refused call changes nothing.
 use Prim.Native.Nat.{ℕ, _+_, _≤_}
 use mathlib.Core.Path.{_≡_, refl, ap, ap₂, sym, _∙_, subst}
 use mathlib.Core.Bool.{true, false, not, _&&_, false≢true}

@@ -1,4 +1,5 @@
--- The id frames that opening takes are frames end to end that fill the string: each is judged where the one before ends, and nothing may follow the last.
+-- The id frames that opening takes are frames end to end that fill the string: each is judged where the one before
+-- ends, and nothing may follow the last.
 use Prim.Native.Nat.{ℕ, zero, suc, _+_, _≤_}
 use mathlib.Core.Path.{_≡_, refl, ap}
 use mathlib.Core.List.{List, [], _∷_, flatMap}

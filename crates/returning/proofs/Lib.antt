@@ -9,4 +9,5 @@ pub mod HistoryLaws
 pub mod ReadLaws
 pub mod RewriteOpen
 pub mod RewriteLaws
+pub mod RefusalLaws
 pub mod Promises

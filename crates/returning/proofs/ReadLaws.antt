@@ -1,4 +1,5 @@
--- What the writer finished reads back as it was given: its bytes are a header and fields that the manual allows, so reading finds just these parts.
+-- What the writer finished reads back as it was given: its bytes are a header and fields that the manual allows, so
+-- reading finds just these parts.
 use Prim.Native.Nat.{ℕ, _+_, _-_, _<_, _≤_}
 use mathlib.Core.Path.{_≡_, refl, ap, ap₂, sym, _∙_, subst}
 use mathlib.Core.Bool.{true}
@@ -16,6 +17,7 @@ use Rattle.sim0mq.specs.Demand2.{cutFrames}
 use Rattle.sim0mq.proofs.Answers.{not-fine, fine-eq, guarded}
 use Rattle.sim0mq.proofs.Stands.{Stands, stands-to, stands-head, stands-tail, stands-left, stands-right, stands-self, big-number}
 use Rattle.sim0mq.proofs.MessageLaws.{cutOf, message-complete}
+use Rattle.sim0mq.proofs.Demand2.{room-is-all-that-counts}
 use Rattle.scalars.specs.Bytes.{bigBytes, bitsOf}
 use Rattle.asking.specs.Asking.{nth}
 use Rattle.signed.specs.Signed.{twos}
@@ -208,7 +210,7 @@ reads-back o out p t k end =
     subst (ReadsBack o (p .given)) whole
     record {
       found = cutOf m;
-      accepted = q;
+      accepted = λ lent room. room-is-all-that-counts lent (messageBytes m) room ∙ q;
       header = header-said o (length out) h fs;
       fields = own;
       scalars = λ before after v split held. scalar-asked (messageBytes m) (cutOf m) (p .given) before after v q own (k .fields .taken) split held;

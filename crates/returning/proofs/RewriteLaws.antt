@@ -1,5 +1,6 @@
--- Rewriting an accepted message gives the same bytes: the writer opens with the message's own header, each of its fields is taken as it stands and placed
--- after what is written, and the declared number is then added, so that closing is granted.
+-- Rewriting an accepted message gives the same bytes: the writer opens with the message's own header, each of its
+-- fields is taken as it stands and placed after what is written, and the declared number is then added, so that closing
+-- is granted.
 use Prim.Native.Nat.{ℕ, _+_, _-_, _<_, _≤_}
 use mathlib.Core.Path.{_≡_, refl, ap, ap₂, sym, _∙_, subst}
 use mathlib.Core.Bool.{true, false}
@@ -9,7 +10,7 @@ use native.Mathlib.Nat.{zero-add}
 use lib.ListN.{length, take, drop, length-append}
 use borrow.Author.Tests.{le-leb, lt-ltb, eq-eqb}
 use Rattle.sim0mq.specs.Answer.{fine, byte}
-use Rattle.sim0mq.specs.Message.{limit, noTable, Reading, reading}
+use Rattle.sim0mq.specs.Message.{limit, Reading, reading}
 use Rattle.sim0mq.specs.Allowed.{Each, none, more, FieldParts, fieldBytes, IsField, HeaderParts, frame0, headerFrames, IsHeader, headerBytes, MessageParts, messageBytes, IsMessage}
 use Rattle.sim0mq.specs.Demand2.{cutFrames}
 use Rattle.sim0mq.proofs.Stands.{Stands, stands-to, stands-left, stands-right, stands-self}
@@ -231,8 +232,8 @@ module _ (p : MessageParts) (is : IsMessage p) (out : List ℕ) where
 -- an accepted message is such parts
 pub rewriting : Rewriting-gives-the-same
 unfolding reading
-rewriting text out found bytes q room =
-    let a = message-sound limit noTable text found q in
+rewriting lent text out found bytes q room =
+    let a = message-sound limit lent text found q in
     subst (λ (x : Reading). Rewrites text x out) (sym (a .says))
     (subst (λ (l : List ℕ). ((i : ℕ) → byte l i < 256) → length l ≤ limit → length l ≤ length out → Rewrites l (cutOf (a .parts)) out) (a .whole)
     (rewrites (a .parts) (a .is) out) bytes (a .short) room)

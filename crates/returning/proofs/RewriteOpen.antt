@@ -1,4 +1,5 @@
--- Rewriting a message opens with its own header: its four ids are asked for as they stand, and each number is written in the bytes that it was read from.
+-- Rewriting a message opens with its own header: its four ids are asked for as they stand, and each number is written
+-- in the bytes that it was read from.
 use Prim.Native.Nat.{ℕ, zero, suc, _+_, _-_, _*_, _<_, _≤_, _^_}
 use mathlib.Core.Path.{_≡_, refl, ap, ap₂, sym, _∙_, subst}
 use mathlib.Core.Bool.{true}

@@ -1,4 +1,5 @@
--- A scalar that may be written is read back as it was, since its field has just the parts that its code asks for, and each number fits its bytes.
+-- A scalar that may be written is read back as it was, since its field has just the parts that its code asks for, and
+-- each number fits its bytes.
 use Prim.Native.Nat.{ℕ, zero, suc, _+_, _*_, _<_, _≤_, _^_}
 use mathlib.Core.Path.{_≡_, refl, ap, sym, _∙_, subst}
 use mathlib.Core.Bool.{Bool, true, false, cond, not, false≢true}

@@ -1,5 +1,5 @@
--- What opening, adding and closing can lead to (01, "The writer"): a history begins with a granted opening, and each further call takes the state last
--- handed back and one same buffer, granted or refused.
+-- What opening, adding and closing can lead to (01, "The writer"): a history begins with a granted opening, and each
+-- further call takes the state last handed back and one same buffer, granted or refused.
 use Prim.Native.Nat.{ℕ, _+_}
 use mathlib.Core.Path.{_≡_}
 use mathlib.Core.Bool.{true}
@@ -11,8 +11,8 @@ use Rattle.opening.specs.Opening.{bufferAfter}
 use Rattle.writing.specs.Writing.{Opening, opening, afterOpening, Given, encoded, scalar, adding, afterAdding, closing, afterClosing}
 use Rattle.writing.specs.declared.Writer.{Writer}
 
--- A point of a history: the state last handed back and the buffer then; and what has been granted: the fields that were added, in order, and how many
--- closings.
+-- A point of a history: the state last handed back and the buffer then; and what has been granted: the fields that were
+-- added, in order, and how many closings.
 pub record Point : Type 0 where
   pub writer : Writer
   pub buffer : List ℕ

@@ -1,4 +1,5 @@
-// What has been run of a case file, what each line of a case adds to it, and how a case ends, given what it was answered with.
+// What has been run of a case file, what each line of a case adds to it, and how a case ends, given what it was
+// answered with.
 use libc::STDOUT_FILENO;
 use lines::ROOM;
 use lines::find;
@@ -118,7 +119,8 @@ fn deed(line: &[u8], run: Run, message: &mut [u8], expected: &mut [u8]) -> Run {
     writing(line, run)
 }
 
-// The run after a line of a case that writes, which is run when the case ends: a call of the writer, or what is said of its state or output.
+// The run after a line of a case that writes, which is run when the case ends: a call of the writer, or what is said of
+// its state or output.
 fn writing(line: &[u8], run: Run) -> Run {
     if starts(line, b"room ") {
         return room(line, run);
@@ -131,7 +133,8 @@ fn writing(line: &[u8], run: Run) -> Run {
     lost(run)
 }
 
-// Whether a case with this line writes: the line is a call of the writer, or says what its state is or its output holds.
+// Whether a case with this line writes: the line is a call of the writer, or says what its state is or its output
+// holds.
 fn writes(line: &[u8]) -> bool {
     if starts(line, b"opens ") {
         return true;
@@ -275,7 +278,8 @@ fn gives(line: &[u8], run: Run, expected: &mut [u8]) -> Run {
     after
 }
 
-// The length of the listing of `message`, put at the front of `out`: its first line alone where the case lends no table.
+// The length of the listing of `message`, put at the front of `out`: its first line alone where the case lends no
+// table.
 pub fn listed(run: Run, message: &[u8], out: &mut [u8]) -> usize {
     if !run.lends {
         let judged = reading::judge(message);
@@ -297,8 +301,8 @@ fn tabled(message: &[u8], table: &mut [u32], out: &mut [u8]) -> usize {
     listing::listing(said, table, out)
 }
 
-// The run after the end of a case that was answered with `given`. Where that is empty, or not the text that the case expects, the case is wrong, and its
-// name and the answer are printed.
+// The run after the end of a case that was answered with `given`. Where that is empty, or not the text that the case
+// expects, the case is wrong, and its name and the answer are printed.
 pub fn ended(text: &[u8], run: Run, given: &[u8], expected: &[u8]) -> Run {
     let mut after = run;
     after.begun = false;

@@ -1,4 +1,5 @@
-// The scalar that a line tells: its kind and its number, as the text of what asking answers has them. A float and a double are told by their bits.
+// The scalar that a line tells: its kind and its number, as the text of what asking answers has them. A float and a
+// double are told by their bits.
 use kinds::Mark;
 use kinds::Scalar;
 use lines::Figure;

@@ -1,4 +1,5 @@
--- The value of a field that stands in a message is that of its bytes by themselves, since it turns on the code, the mark and the value bytes alone.
+-- The value of a field that stands in a message is that of its bytes by themselves, since it turns on the code, the
+-- mark and the value bytes alone.
 use Prim.Native.Nat.{ℕ, zero, suc, _+_, _≤_}
 use mathlib.Core.Path.{_≡_, refl, ap, ap₂, sym, _∙_}
 use mathlib.Core.Bool.{Bool, true, false, cond}

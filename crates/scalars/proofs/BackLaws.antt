@@ -1,4 +1,5 @@
--- A value gives back its bytes, since by its code the field has one value of that width, and writing a number undoes reading it.
+-- A value gives back its bytes, since by its code the field has one value of that width, and writing a number undoes
+-- reading it.
 use Prim.Native.Nat.{ℕ, _+_, _-_, _*_, _<_, _≤_}
 use mathlib.Core.Path.{_≡_, refl, ap, sym, _∙_}
 use mathlib.Core.Bool.{Bool, true, false, cond}

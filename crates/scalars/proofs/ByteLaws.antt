@@ -1,4 +1,5 @@
--- Writing a number gives back the bytes that it was read from, since a byte is what is left of the number after division by 256.
+-- Writing a number gives back the bytes that it was read from, since a byte is what is left of the number after
+-- division by 256.
 use Prim.Native.Nat.{ℕ, zero, suc, _+_, _-_, _*_, _/_, _%_, _<_, _≤_, _^_}
 use mathlib.Core.Path.{_≡_, refl, ap, sym, _∙_, subst}
 use mathlib.Core.Bool.{Bool, true, false, cond, not}

@@ -1,6 +1,7 @@
 pub mod ScalarCases
 pub mod OneLaws
 pub mod StandingLaws
+pub mod ValueLaws
 pub mod ReadCases
 pub mod NotNumbers
 pub mod ByteLaws

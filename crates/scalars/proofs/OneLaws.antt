@@ -1,4 +1,5 @@
--- A field that is asked for, of a code with no counts, has one value: its code, its marks and that value stand in the message at its place.
+-- A field that is asked for, of a code with no counts, has one value: its code, its marks and that value stand in the
+-- message at its place.
 use Prim.Native.Nat.{ℕ, _+_, _≤_, _<_}
 use mathlib.Core.Path.{_≡_, refl, ap, sym, _∙_, subst}
 use mathlib.Core.Bool.{true}

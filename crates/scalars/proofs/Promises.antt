@@ -3,20 +3,33 @@ use Prim.Native.Nat.{ℕ, _+_, _-_}
 use mathlib.Core.Path.{_≡_, refl, ap, sym, _∙_, subst}
 use native.Mathlib.Omega.{arith}
 use lib.ListN.{length, take, drop}
-use Rattle.sim0mq.specs.Answer.{Answer, fine, _>>=_}
+use Rattle.sim0mq.specs.Answer.{Answer, fine, refused, _>>=_}
 use Rattle.sim0mq.specs.Field.{Field, after, field}
 use Rattle.sim0mq.specs.Allowed.{fieldBytes}
 use Rattle.sim0mq.proofs.Stands.{stands-self}
 use Rattle.sim0mq.proofs.FieldLaws.{fieldAt, after-at, field-complete}
 use Rattle.asking.proofs.PartLaws.{asked-parts}
 use Rattle.scalars.specs.Scalars.{scalarOf, value}
-use Rattle.scalars.specs.Promises.{Not-a-number-exactly, ownBytes, Value-is-its-bytes, Value-gives-back-its-bytes}
+use Rattle.scalars.specs.Promises.{Value-agrees-with-asking, Not-a-number-exactly, ownBytes, Value-is-its-bytes, Value-gives-back-its-bytes}
 use Rattle.kinds.specs.declared.Scalar.the-variants.{NotNumber}
 use Rattle.scalars.proofs.AloneLaws.{value-alone}
 use Rattle.scalars.proofs.BackLaws.{part-back, value-back}
 use Rattle.scalars.proofs.NotNumbers.{nan-only, nan-always}
 use Rattle.scalars.proofs.ReadCases.{read-as}
 use Rattle.scalars.proofs.StandingLaws.{asked-standing}
+use Rattle.scalars.proofs.ValueLaws.{seventeen-only, seventeen-always, value-found}
+
+-- asking for the field, and then the tests of its code
+pub value-agrees-with-asking : Value-agrees-with-asking
+unfolding value
+value-agrees-with-asking s k =
+    record {
+      refuses = λ number place q. rw q refl;
+      seventeen =
+          λ place.
+          (seventeen-only s k place, λ h. seventeen-always s k (h .0 .0) (h .0 .1) (h .0 .2) ∙ ap (λ (p : ℕ). refused 17 p) (sym (h .1)));
+      finds = value-found s k;
+    }
 
 -- only the four codes of floats and doubles are put to the test
 pub not-a-number-exactly : Not-a-number-exactly

@@ -1,4 +1,5 @@
--- Each return of the code is one case of the definition, told by the field's code or the mark's unit type; the bytes that it reads are there.
+-- Each return of the code is one case of the definition, told by the field's code or the mark's unit type; the bytes
+-- that it reads are there.
 use Prim.Native.Nat.{ℕ, _+_, _≤_, _<_}
 use mathlib.Core.Path.{_≡_, ap, sym, _∙_}
 use mathlib.Core.List.{List}
@@ -16,8 +17,8 @@ use Rattle.scalars.specs.Scalars.{markOf, markAt, Standing, scalarOf}
 
 module _ (s : List ℕ) (f : Field) (st : Standing s f) where
   -- the number read is the one that the value bytes write
-  pub told : (c n x : ℕ) → f .code ≡ c → countsOf c ≡ 0 → widthOf c ≡ n → n ≤ 8 → x ≡ numberAt s (f .first) n → x ≡ big s (f .first) n
-  told c n x e k w h q =
+  pub number-is : (c n x : ℕ) → f .code ≡ c → countsOf c ≡ 0 → widthOf c ≡ n → n ≤ 8 → x ≡ numberAt s (f .first) n → x ≡ big s (f .first) n
+  number-is c n x e k w h q =
       let size : f .size ≡ n = st .sized (ap countsOf e ∙ k) ∙ ap widthOf e ∙ w in
       let within = st .within in
       q ∙ number-there s (f .first) n (omega arith) h

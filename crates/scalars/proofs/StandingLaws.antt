@@ -1,4 +1,5 @@
--- A field that was asked for stands in the message, since its parts do: its value bytes are there, and its mark before them.
+-- A field that was asked for stands in the message, since its parts do: its value bytes are there, and its mark before
+-- them.
 use Prim.Native.Nat.{ℕ, _+_, _≤_}
 use mathlib.Core.Path.{_≡_, ap, _∙_}
 use mathlib.Core.List.{List, []}

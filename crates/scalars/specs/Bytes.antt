@@ -1,4 +1,5 @@
--- The bytes that a scalar value is written in (000, 2.1 and 2.2): the other way round from specs/Scalars, so that reading can be held against it.
+-- The bytes that a scalar value is written in (000, 2.1 and 2.2): the other way round from specs/Scalars, so that
+-- reading can be held against it.
 use Prim.Native.Nat.{ℕ, zero, suc, _-_, _/_, _%_, _^_}
 use mathlib.Core.Bool.{cond}
 use mathlib.Core.List.{List, [], _∷_, _++_}
@@ -34,7 +35,8 @@ scalarBytes (FloatUnit x m) = bigBytes 4 (toBits binary32 x)
 scalarBytes (DoubleUnit x m) = bigBytes 8 (toBits binary64 x)
 scalarBytes (NotNumber c) = []
 
--- The bytes of a mark whose unit type is of this kind: the unit type, then the two bytes of a currency and then a display code, where it has one.
+-- The bytes of a mark whose unit type is of this kind: the unit type, then the two bytes of a currency and then a
+-- display code, where it has one.
 unfoldable pub bytesOfMark : Mark → Kind → List ℕ
 bytesOfMark m (plain t) = m .unit ∷ m .display ∷ []
 bytesOfMark m money = m .unit ∷ bigBytes 2 (m .currency)

@@ -1,4 +1,5 @@
--- The values of scalar fields (01, "What reading returns" and refusal 17; 000, 2.1 and 2.2.1, 2.2.2, 2.2.9): codes 0 to 8, 25 and 26.
+-- The values of scalar fields (01, "What reading returns" and refusal 17; 000, 2.1 and 2.2.1, 2.2.2, 2.2.9): codes 0 to
+-- 8, 25 and 26.
 use Prim.Native.Nat.{ℕ, _+_, _≤_}
 use mathlib.Core.Path.{_≡_}
 use mathlib.Core.Bool.{cond}
@@ -28,8 +29,8 @@ markOf s at unknown = record { unit = byte s at; currency = 0; display = 0 }
 abbrev pub markAt : List ℕ → ℕ → Mark
 markAt s at = markOf s at (kindOf (byte s at))
 
--- What is known of a field of an accepted message s: its value bytes are in s; where it has no count they are one value's, and its mark, where it has
--- one, is two bytes or more.
+-- What is known of a field of an accepted message s: its value bytes are in s; where it has no count they are one
+-- value's, and its mark, where it has one, is two bytes or more.
 pub record Standing (s : List ℕ) (f : Field) : Type 0 where
   pub within : f .first + f .size ≤ length s
   pub sized : countsOf (f .code) ≡ 0 → f .size ≡ widthOf (f .code)

@@ -35,7 +35,7 @@ use Rattle.sim0mq.specs.Header.{
 }
 use Rattle.sim0mq.specs.Message.{limit, enough, messageRest, message, reading}
 use Rattle.sim0mq.specs.Table.{placed}
-use Rattle.sim0mq.specs.Examples.{front, sample}
+use Rattle.sim0mq.specs.Examples.{headerOfS, sample}
 use Rattle.numbers.specs.Numbers.{numberAt}
 use Rattle.signed.specs.Signed.{twos}
 use Rattle.senders_book.specs.declared.Sender.{Sender}
@@ -69,7 +69,7 @@ placeTaken (refused k p) = refused k p
 -- S; with the number 125; with −1, which is smaller; from MC.2; as 16-bit characters, from another sender; from a
 -- sender of 33 bytes; and with the status 4, which reading refuses.
 unfoldable pub messages : List (List ℕ)
-unfolding sample front
+unfolding sample headerOfS
 messages =
     sample
     ∷ set sample 62 125
@@ -82,7 +82,7 @@ messages =
 
 -- The book that S was taken into; and one of 32 other senders.
 unfoldable pub once : List Sender
-unfolding sample front
+unfolding sample headerOfS
 once = bookAfter emptyBook (taking emptyBook sample)
 
 unfoldable pub full : List Sender
@@ -108,7 +108,7 @@ pub examples-hold :
     ∷ (fine 7 ∷ fine 7 ∷ fine 7 ∷ fine 7 ∷ fine 7 ∷ refused 26 24 ∷ refused 6 64 ∷ [])
     ∷ []
 unfolding
-    messages once full sample front alike sameId holds placeOf freePlace settling closing
+    messages once full sample headerOfS alike sameId holds placeOf freePlace settling closing
     framePlace stampAt stamping takingFramed taking placed numberAt twos
     reading message messageRest enough limit
     header declared status frame magic digit literal among statusTaken fieldsTaken payload payloadFrom moved steps

@@ -1,4 +1,5 @@
--- The code reads a signed number as -1 - (2 ^ w - 1 - n) where n's top bit is set, since no step of that leaves its width.
+-- The code reads a signed number as -1 - (2 ^ w - 1 - n) where n's top bit is set, since no step of that leaves its
+-- width.
 use Prim.Native.Nat.{ℕ, zero, suc, _-_, _<_, _≤_, _^_}
 use mathlib.Core.Path.{_≡_, refl, ap, _∙_}
 use mathlib.Core.Bool.{Bool, true, false}

@@ -1,4 +1,5 @@
--- Blanking writes zeros over the value strings of a cut and moves nothing, so the copy is the same cut with zeros for values.
+-- Blanking writes zeros over the value strings of a cut and moves nothing, so the copy is the same cut with zeros for
+-- values.
 use Prim.Native.Nat.{ℕ, suc, _+_, _-_, _≤_, _<_}
 use mathlib.Core.Path.{_≡_, refl, ap, ap₂, sym, _∙_, subst}
 use mathlib.Core.Bool.{Bool, true, false}

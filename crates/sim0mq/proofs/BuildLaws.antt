@@ -1,4 +1,5 @@
--- Messages that agree outside the value bytes of one are cut alike: a field's code, counts and marks stand before its values and say where it ends.
+-- Messages that agree outside the value bytes of one are cut alike: a field's code, counts and marks stand before its
+-- values and say where it ends.
 use Prim.Native.Nat.{ℕ, _+_, _*_, _≤_, _<_}
 use mathlib.Core.Path.{_≡_, refl, ap, ap₂, sym, _∙_, subst}
 use mathlib.Core.List.{List, [], _∷_, _++_, flatMap, append-assoc}

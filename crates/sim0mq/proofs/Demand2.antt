@@ -1,22 +1,52 @@
--- Demand 2 holds of the definitions: the judge takes exactly the messages and answers their cut (MessageLaws), and there is no other cut (Only).
+-- Demand 2 holds of the definitions: the judge takes exactly the messages and answers their cut (MessageLaws), and
+-- there is no other cut (Only).
 use Prim.Native.Nat.{ℕ, _≤_}
 use mathlib.Core.Path.{_≡_, refl, ap, sym, _∙_, subst, subst₂}
+use mathlib.Core.Bool.{true}
 use mathlib.Core.List.{List, flatMap}
 use native.Mathlib.Omega.{arith}
 use lib.ListN.{length, length-append}
-use Rattle.sim0mq.specs.Answer.{fine}
-use Rattle.sim0mq.specs.Message.{limit, Lent, Reading, stepsOf, reading}
+use lib.Dec.{leb}
+use Rattle.sim0mq.specs.Answer.{Answer, fine, refused, _>>=_, _>>_, guard}
+use Rattle.sim0mq.specs.Header.{Header, header}
+use Rattle.sim0mq.specs.Message.{limit, Lent, noTable, enough, Reading, stepsOf, messageRest, message, reading}
 use Rattle.sim0mq.specs.Allowed.{fieldBytes, headerBytes, MessageParts, messageBytes, IsMessage, Allowed}
-use Rattle.sim0mq.specs.Demand2.{Room, Accepted, Accepts-what-is-allowed, cutFrames, IsCut, Reads-the-cut, Covers, Fields-cover-the-payload, Cut-is-unique, Steps-are-counted}
+use Rattle.sim0mq.specs.Demand2.{Room, Room-is-all-that-counts, Accepted, Accepts-what-is-allowed, cutFrames, IsCut, Reads-the-cut, Covers, Fields-cover-the-payload, Cut-is-unique, Steps-are-counted}
+use Rattle.sim0mq.proofs.Answers.{bind-fine, guarded, fine-eq}
 use Rattle.sim0mq.proofs.PayloadLaws.{fields-many, fields-rows, fields-tile, fields-steps}
 use Rattle.sim0mq.proofs.HeaderLaws.{headerAt}
 use Rattle.sim0mq.proofs.MessageLaws.{cutOf, front-complete, message-complete, FoundMessage, message-sound}
 use Rattle.sim0mq.proofs.Only.{message-only}
 
 -- what was read, as a message's parts
-found : (lent : Lent) (s : List ℕ) (m : Reading) → reading lent s ≡ fine m → FoundMessage limit s m
+pub found : (lent : Lent) (s : List ℕ) (m : Reading) → reading lent s ≡ fine m → FoundMessage limit s m
 unfolding reading
 found lent s m q = message-sound limit lent s m q
+
+-- a table is asked for its room alone, once the header is good
+room-go : (lent : Lent) (s : List ℕ) (a : Answer Header) → ((h : Header) → a ≡ fine h → enough lent (h .fields) ≡ true)
+    → (a >>= (λ h. guard (enough lent (h .fields)) 14 0 >> messageRest s h))
+    ≡ (a >>= (λ h. guard (enough noTable (h .fields)) 14 0 >> messageRest s h))
+unfolding enough
+room-go lent s (fine h) room = rw (room h refl) refl
+room-go lent s (refused k p) room = refl
+
+pub room-is-all-that-counts : Room-is-all-that-counts
+unfolding reading message
+room-is-all-that-counts lent s room =
+    ap (λ (a : Answer Reading). guard (leb (length s) limit) 8 0 >> a) (room-go lent s (header s) room)
+
+-- what is accepted with a table had room in it, and is accepted with none
+pub room-had : (lent : Lent) (s : List ℕ) (m : Reading) → reading lent s ≡ fine m → Room lent s
+unfolding reading message
+room-had lent s m q h e =
+    let a = guarded (leb (length s) limit) _ _ _ q in
+    let b = bind-fine (header s) _ (a .1) in
+    let c = guarded (enough lent (b .0 .fields)) _ _ _ (b .2) in
+    subst (λ (x : Header). enough lent (x .fields) ≡ true) (fine-eq (sym (b .1) ∙ e)) (c .0)
+
+pub without-table : (lent : Lent) (s : List ℕ) (m : Reading) → reading lent s ≡ fine m → reading noTable s ≡ fine m
+without-table lent s m q = sym (room-is-all-that-counts lent s (room-had lent s m q)) ∙ q
 
 accepts-parts : (lent : Lent) (p : MessageParts) → IsMessage p → length (messageBytes p) ≤ limit → Room lent (messageBytes p)
     → Accepted lent (messageBytes p)
@@ -69,6 +99,20 @@ pub fields-cover-the-payload : Fields-cover-the-payload
 fields-cover-the-payload lent s m q =
     let f = found lent s m q in
     subst₂ (λ (t : List ℕ) (x : Reading). Covers t x) (f .whole) (sym (f .says)) (cut-covers (f .parts) (f .is))
+
+-- where one message was accepted with a table, so is another that has as many fields
+pub with-table : (lent : Lent) (s t : List ℕ) (m n : Reading) → reading lent s ≡ fine m → reading noTable t ≡ fine n
+    → length (m .fields) ≡ length (n .fields) → reading lent t ≡ fine n
+with-table lent s t m n q r many =
+    let a = fields-cover-the-payload lent s m q in
+    let b = fields-cover-the-payload noTable t n r in
+    let had : enough lent (a .head .fields) ≡ true = room-had lent s m q (a .head) (a .reads) in
+    let declares : a .head .fields ≡ b .head .fields = sym (a .declared) ∙ many ∙ b .declared in
+    let room : Room lent t
+    = λ h e.
+    subst (λ (x : Header). enough lent (x .fields) ≡ true) (fine-eq (sym (b .reads) ∙ e))
+    (subst (λ (k : ℕ). enough lent k ≡ true) declares had) in
+    room-is-all-that-counts lent t room ∙ r
 
 pub steps-are-counted : Steps-are-counted
 unfolding stepsOf cutFrames

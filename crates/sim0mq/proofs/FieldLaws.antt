@@ -1,4 +1,5 @@
--- The field judge takes exactly the fields, and answers what their parts say: its code and counts say how many marks and value bytes there are.
+-- The field judge takes exactly the fields, and answers what their parts say: its code and counts say how many marks
+-- and value bytes there are.
 use Prim.Native.Nat.{ℕ, zero, suc, _+_, _*_, _≤_, _<_}
 use mathlib.Core.Path.{_≡_, refl, ap, ap₂, sym, _∙_, subst}
 use mathlib.Core.Bool.{Bool, true, false, cond}

@@ -1,4 +1,5 @@
--- The header judge takes exactly the headers: each frame after 0 is a field of an allowed type, judged where the frame before ends.
+-- The header judge takes exactly the headers: each frame after 0 is a field of an allowed type, judged where the frame
+-- before ends.
 use Prim.Native.Nat.{ℕ, _+_, _*_, _≤_, _<_, zero-le}
 use mathlib.Core.Path.{_≡_, refl, ap, sym, _∙_, subst}
 use mathlib.Core.Bool.{true, _&&_}

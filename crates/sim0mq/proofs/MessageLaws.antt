@@ -1,4 +1,5 @@
--- The message judge takes exactly the messages, and answers their own cut: the header is judged at the front, and its payload is the rest.
+-- The message judge takes exactly the messages, and answers their own cut: the header is judged at the front, and its
+-- payload is the rest.
 use Prim.Native.Nat.{ℕ, _+_, _≤_, zero-le}
 use mathlib.Core.Path.{_≡_, ap, sym, _∙_, subst}
 use mathlib.Core.Bool.{true}

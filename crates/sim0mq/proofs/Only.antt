@@ -1,4 +1,5 @@
--- A string is cut in one way only: an item's own first bytes say where it ends, so two cuts of the same bytes agree item by item.
+-- A string is cut in one way only: an item's own first bytes say where it ends, so two cuts of the same bytes agree
+-- item by item.
 use Prim.Native.Nat.{ℕ, _+_, _*_}
 use mathlib.Core.Path.{_≡_, refl, ap, ap₂, sym, _∙_, subst}
 use mathlib.Core.List.{List, [], _∷_, _++_, flatMap}

@@ -1,4 +1,5 @@
--- The payload judge takes exactly runs of fields that fill the part: each field is judged where the one before ends, and nothing may follow the last.
+-- The payload judge takes exactly runs of fields that fill the part: each field is judged where the one before ends,
+-- and nothing may follow the last.
 use Prim.Native.Nat.{ℕ, zero, suc, _+_, _≤_}
 use mathlib.Core.Path.{_≡_, refl, ap, ap₂, sym, _∙_, subst}
 use mathlib.Core.List.{List, [], _∷_, map, flatMap}

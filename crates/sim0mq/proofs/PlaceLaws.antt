@@ -1,4 +1,5 @@
--- A text placed after another is the two placed as one, since what the first wrote stands before the second, and the rest of the buffer after it.
+-- A text placed after another is the two placed as one, since what the first wrote stands before the second, and the
+-- rest of the buffer after it.
 use Prim.Native.Nat.{ℕ, _+_, _≤_}
 use mathlib.Core.Path.{_≡_, ap, sym, _∙_}
 use mathlib.Core.List.{List, [], _++_, append-assoc}

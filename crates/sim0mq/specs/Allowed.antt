@@ -1,5 +1,5 @@
--- What the manual allows (000, chapter 2, with 01's rulings), as strings of bytes: no refusal, no place and no order of judging.
--- With the judges it shares the rows of the tables and the tests of a single number, and nothing else.
+-- What the manual allows (000, chapter 2, with 01's rulings), as strings of bytes: no refusal, no place and no order of
+-- judging. With the judges it shares the rows of the tables and the tests of a single number, and nothing else.
 use Prim.Native.Nat.{ℕ, zero, suc, _+_, _*_, _≤_, _<_}
 use mathlib.Core.Path.{_≡_}
 use mathlib.Core.Bool.{true}
@@ -28,7 +28,8 @@ pub record IsCount (bytes : List ℕ) : Type 0 where
   pub long : length bytes ≡ 4
   pub sign : notNegative (getD bytes 0 0) ≡ true
 
--- The bytes of a mark: unit type and display code; unit type and currency code; or unit type, currency code and display code (000, 2.2 and 2.2.9).
+-- The bytes of a mark: unit type and display code; unit type and currency code; or unit type, currency code and display
+-- code (000, 2.2 and 2.2.9).
 pub data IsMark : List ℕ → Type 0 where
   withDisplay : {u t d : ℕ} → kindOf u ≡ plain t → displayTaken t d ≡ true → IsMark (u ∷ d ∷ [])
   withCurrency : {u h l : ℕ} → kindOf u ≡ money → currencyTaken (number (h ∷ l ∷ [])) ≡ true → IsMark (u ∷ h ∷ l ∷ [])
@@ -49,7 +50,8 @@ joined strings = flatMap (λ (l : List ℕ). l) strings
 abbrev pub fieldBytes : FieldParts → List ℕ
 fieldBytes f = f .code ∷ (joined (f .counts) ++ (joined (f .marks) ++ f .values))
 
--- How many values counts ask for: one without a count, as many as the count says, or rows times columns (000, 2.1.1 to 2.1.3).
+-- How many values counts ask for: one without a count, as many as the count says, or rows times columns (000, 2.1.1 to
+-- 2.1.3).
 unfoldable pub valuesAsked : List (List ℕ) → ℕ
 valuesAsked [] = 1
 valuesAsked (n ∷ []) = number n

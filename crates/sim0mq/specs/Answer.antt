@@ -30,6 +30,11 @@ abbrev pub partAt : {A : Type 0} → ℕ → Answer A → Answer A
 partAt b (fine a) = fine a
 partAt b (refused k p) = refused k (b + p)
 
+-- The length of the bytes that were answered, or the refusal.
+abbrev pub lengthOf : Answer (List ℕ) → Answer ℕ
+lengthOf (fine text) = fine (length text)
+lengthOf (refused k p) = refused k p
+
 -- Byte i of s.
 abbrev pub byte : List ℕ → ℕ → ℕ
 byte s i = getD s i 0
@@ -38,7 +43,8 @@ byte s i = getD s i 0
 abbrev pub need : List ℕ → ℕ → ℕ → Answer (Unit {0})
 need s at n = guard (leb (at + n) (length s)) 1 (length s)
 
--- The number that the n bytes from `at` on write, the first byte weighing most (01, "What is built": big-endian; 000, 2.1).
+-- The number that the n bytes from `at` on write, the first byte weighing most (01, "What is built": big-endian; 000,
+-- 2.1).
 unfoldable pub big : List ℕ → ℕ → ℕ → ℕ
 big s at zero = 0
 big s at (suc n) = big s at n * 256 + byte s (at + n)

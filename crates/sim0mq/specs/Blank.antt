@@ -1,4 +1,5 @@
--- The blanked copy: zero in every payload value byte, and the message's own byte elsewhere (01, "Blanking" and refusal 14).
+-- The blanked copy: zero in every payload value byte, and the message's own byte elsewhere (01, "Blanking" and refusal
+-- 14).
 use Prim.Native.Nat.{ℕ, _+_}
 use mathlib.Core.List.{List, [], _∷_, _++_}
 use lib.ListN.{length, take, drop, replicate}

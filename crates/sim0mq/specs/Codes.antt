@@ -1,4 +1,5 @@
--- The field codes 0 to 32 (01, "Payload fields"; 000, 2.1): a row of 33 numbers for each column of 01's table, and a line for each of its lines.
+-- The field codes 0 to 32 (01, "Payload fields"; 000, 2.1): a row of 33 numbers for each column of 01's table, and a
+-- line for each of its lines.
 use Prim.Native.Nat.{ℕ}
 use mathlib.Core.Bool.{Bool, false, _||_}
 use mathlib.Core.List.{List, [], _∷_}

@@ -1,5 +1,5 @@
--- Demand 2, of the definitions: a message is accepted exactly when the manual allows it, and its fields cover the payload.
--- Each statement here is proved in proofs/Demand2.antt.
+-- Demand 2, of the definitions: a message is accepted exactly when the manual allows it, and its fields cover the
+-- payload. Each statement here is proved in proofs/Demand2.antt.
 use Prim.Native.Nat.{ℕ, _+_, _<_}
 use mathlib.Core.Path.{_≡_}
 use mathlib.Core.Bool.{true}
@@ -10,7 +10,7 @@ use Rattle.sim0mq.specs.Answer.{fine}
 use Rattle.sim0mq.specs.Field.{Field, after}
 use Rattle.sim0mq.specs.Table.{rows}
 use Rattle.sim0mq.specs.Header.{Frame, Header, header}
-use Rattle.sim0mq.specs.Message.{limit, Lent, enough, Reading, stepsOf, reading}
+use Rattle.sim0mq.specs.Message.{limit, Lent, noTable, enough, Reading, stepsOf, reading}
 use Rattle.sim0mq.specs.Allowed.{FieldParts, joined, fieldBytes, valuesAsked, headerBytes, headerFrames, MessageParts, messageBytes, IsMessage, Allowed}
 
 -- What is lent has room for the fields that s declares, if s has a good header.
@@ -19,6 +19,10 @@ Room lent s = (h : Header) → header s ≡ fine h → enough lent (h .fields) �
 
 abbrev pub Accepted : Lent → List ℕ → Type 0
 Accepted lent s = (m : Reading) × (reading lent s ≡ fine m)
+
+-- A long enough table changes no answer: what is said of reading with none is said of reading with such a table.
+abbrev pub Room-is-all-that-counts : Type 0
+Room-is-all-that-counts = (lent : Lent) (s : List ℕ) → Room lent s → reading lent s ≡ reading noTable s
 
 -- With a long enough table, or with none, reading accepts exactly what the manual allows.
 abbrev pub Accepts-what-is-allowed : Type 0
@@ -42,7 +46,8 @@ unfoldable pub cutFrames : ℕ → List FieldParts → List Frame
 cutFrames at [] = []
 cutFrames at (f ∷ fs) = record { place = at; code = f .code } ∷ cutFrames (at + length (fieldBytes f)) fs
 
--- What reading finds in a message is the message's own cut: its length, its frames, its rows, as many fields as its parts have.
+-- What reading finds in a message is the message's own cut: its length, its frames, its rows, as many fields as its
+-- parts have.
 pub record IsCut (p : MessageParts) (m : Reading) : Type 0 where
   pub bytes : m .bytes ≡ length (messageBytes p)
   pub frames : m .frames ≡ record { place = 0; code = 9 } ∷ cutFrames 10 (headerFrames (p .header))
@@ -52,12 +57,14 @@ pub record IsCut (p : MessageParts) (m : Reading) : Type 0 where
 abbrev pub Reads-the-cut : Type 0
 Reads-the-cut = (lent : Lent) (s : List ℕ) (m : Reading) (a : Allowed limit s) → reading lent s ≡ fine m → IsCut (a .parts) m
 
--- These fields fill the bytes from `at` to `end`: the first begins at `at`, each next where the one before ends, the last ends at `end`.
+-- These fields fill the bytes from `at` to `end`: the first begins at `at`, each next where the one before ends, the
+-- last ends at `end`.
 unfoldable pub Tiles : ℕ → List Field → ℕ → Type 0
 Tiles at [] end = at ≡ end
 Tiles at (f ∷ fs) end = (f .place ≡ at) × (at < f .first) × Tiles (after f) fs end
 
--- The fields of an accepted message fill it from its header's end to its own, without gap or overlap, and are as many as declared.
+-- The fields of an accepted message fill it from its header's end to its own, without gap or overlap, and are as many
+-- as declared.
 pub record Covers (s : List ℕ) (m : Reading) : Type 0 where
   pub head : Header
   pub reads : header s ≡ fine head

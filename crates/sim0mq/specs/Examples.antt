@@ -14,8 +14,8 @@ use Rattle.sim0mq.specs.Message.{limit, table, enough, Reading, stepsOf,
 use Rattle.sim0mq.specs.Blank.{zeroed, blanked, blanking}
 
 -- S's header, 68 bytes: frame 0, IDVV.14.2, MC.1, MM1.4, DSOL.3, 124, change, one field (000, 2.3.6).
-unfoldable pub front : List ℕ
-front =
+unfoldable pub headerOfS : List ℕ
+headerOfS =
     9 ∷ 0 ∷ 0 ∷ 0 ∷ 5 ∷ 83 ∷ 73 ∷ 77 ∷ 48 ∷ 49
     ∷ 9 ∷ 0 ∷ 0 ∷ 0 ∷ 9 ∷ 73 ∷ 68 ∷ 86 ∷ 86 ∷ 46 ∷ 49 ∷ 52 ∷ 46 ∷ 50
     ∷ 9 ∷ 0 ∷ 0 ∷ 0 ∷ 4 ∷ 77 ∷ 67 ∷ 46 ∷ 49
@@ -28,8 +28,8 @@ front =
 
 -- S, whose payload is the double 0.2.
 unfoldable pub sample : List ℕ
-unfolding front
-sample = front ++ (5 ∷ 63 ∷ 201 ∷ 153 ∷ 153 ∷ 153 ∷ 153 ∷ 153 ∷ 154 ∷ [])
+unfolding headerOfS
+sample = headerOfS ++ (5 ∷ 63 ∷ 201 ∷ 153 ∷ 153 ∷ 153 ∷ 153 ∷ 153 ∷ 154 ∷ [])
 
 -- What is done to some bytes: they are read, with a table that is long enough for every message, or blanked.
 pub data Deed : Type 0 where
@@ -64,7 +64,7 @@ abbrev pub _gives_ : Deed → Outcome → Example
 d gives o = record { deed = d; gives = o }
 
 unfoldable pub starred : List Example
-unfolding front sample
+unfolding headerOfS sample
 starred =
     (read [] gives refusal 1 0)
     ∷ (read sample gives accepted 9 (5 ∷ 68 ∷ 69 ∷ 8 ∷ 0 ∷ 1 ∷ []))
@@ -76,16 +76,16 @@ starred =
     ∷ (read (set sample 66 1) gives refusal 7 66)
     ∷ (read (set sample 66 0x80) gives refusal 5 66)
     ∷ (read (set sample 68 33) gives refusal 9 68)
-    ∷ (read (front ++ (24 ∷ 0 ∷ 0 ∷ 0 ∷ 0 ∷ 127 ∷ 255 ∷ 255 ∷ 255 ∷ [])) gives accepted 9 (24 ∷ 68 ∷ 77 ∷ 0 ∷ 0 ∷ 0 ∷ []))
-    ∷ (read (front ++ (23 ∷ 127 ∷ 255 ∷ 255 ∷ 255 ∷ 127 ∷ 255 ∷ 255 ∷ 255 ∷ [])) gives refusal 1 77)
-    ∷ (read (front ++ (26 ∷ 101 ∷ 0x03 ∷ 0xD2 ∷ 21 ∷ 0x40 ∷ 0xA3 ∷ 0x88 ∷ 0 ∷ 0 ∷ 0 ∷ 0 ∷ 0 ∷ [])) gives accepted 10 (26 ∷ 68 ∷ 73 ∷ 8 ∷ 1 ∷ 1 ∷ []))
-    ∷ (blank sample gives copy (front ++ (5 ∷ 0 ∷ 0 ∷ 0 ∷ 0 ∷ 0 ∷ 0 ∷ 0 ∷ 0 ∷ [])))
+    ∷ (read (headerOfS ++ (24 ∷ 0 ∷ 0 ∷ 0 ∷ 0 ∷ 127 ∷ 255 ∷ 255 ∷ 255 ∷ [])) gives accepted 9 (24 ∷ 68 ∷ 77 ∷ 0 ∷ 0 ∷ 0 ∷ []))
+    ∷ (read (headerOfS ++ (23 ∷ 127 ∷ 255 ∷ 255 ∷ 255 ∷ 127 ∷ 255 ∷ 255 ∷ 255 ∷ [])) gives refusal 1 77)
+    ∷ (read (headerOfS ++ (26 ∷ 101 ∷ 0x03 ∷ 0xD2 ∷ 21 ∷ 0x40 ∷ 0xA3 ∷ 0x88 ∷ 0 ∷ 0 ∷ 0 ∷ 0 ∷ 0 ∷ [])) gives accepted 10 (26 ∷ 68 ∷ 73 ∷ 8 ∷ 1 ∷ 1 ∷ []))
+    ∷ (blank sample gives copy (headerOfS ++ (5 ∷ 0 ∷ 0 ∷ 0 ∷ 0 ∷ 0 ∷ 0 ∷ 0 ∷ 0 ∷ [])))
     ∷ []
 
 -- Each example's deed comes to what the example gives.
 pub examples-hold : map (λ (e : Example). outcome (e .deed)) starred ≡ map (λ (e : Example). e .gives) starred
 unfolding
-    starred front sample outcome blanking blanked zeroed reading message messageRest enough limit stepsOf
+    starred headerOfS sample outcome blanking blanked zeroed reading message messageRest enough limit stepsOf
     header declared status frame magic digit literal among statusTaken fieldsTaken row rows rowSize payload payloadFrom moved steps
     field outline after booleans booleansOf head headRest counts count markCount mark marks markRest display currency kindOf currencyTaken
     displayTaken codeKnown countsOf markingOf widthOf boolean big notNegative

@@ -70,8 +70,8 @@ booleans s (suc n) at = do
 unfoldable pub booleansOf : ℕ → ℕ → ℕ
 booleansOf c n = cond (boolean c) n 0
 
--- What is known of a field: its code, the place of its code byte, the place of its first value byte (or after its counts and marks),
--- the number of its value bytes, of its marks, and of its values.
+-- What is known of a field: its code, the place of its code byte, the place of its first value byte (or after its
+-- counts and marks), the number of its value bytes, of its marks, and of its values.
 pub record Field : Type 0 where
   pub code : ℕ
   pub place : ℕ
@@ -95,7 +95,8 @@ fieldOf at h first =
       values = h .values;
     }
 
--- The outline of the field at `at`: code and counts, each mark in turn, and all value bytes there (1); no value byte is judged.
+-- The outline of the field at `at`: code and counts, each mark in turn, and all value bytes there (1); no value byte is
+-- judged.
 unfoldable pub outline : List ℕ → ℕ → Answer Field
 outline s at = do
   h ← head s at

@@ -56,7 +56,8 @@ magic s = do
   guard (eqb a 48 && eqb b 49) 3 8
   fine 10
 
--- A frame after 0 is a field of an allowed type (4), which has no mark and no Boolean: its code, its count if it has one, its value bytes.
+-- A frame after 0 is a field of an allowed type (4), which has no mark and no Boolean: its code, its count if it has
+-- one, its value bytes.
 unfoldable pub frame : List ℕ → List ℕ → ℕ → Answer Field
 frame s codes at = do
   need s at 1

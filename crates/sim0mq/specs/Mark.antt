@@ -43,7 +43,8 @@ currencyRow =
     ∷ 962 ∷ 994 ∷ 963 ∷ 965 ∷ 999 ∷ 886 ∷ 710 ∷ 967 ∷ 932 ∷ 1000  -- XPT to XBT
     ∷ []
 
--- What follows a unit type: a display code of unit type t; a currency code; a currency code, then a display code of unit type t.
+-- What follows a unit type: a display code of unit type t; a currency code; a currency code, then a display code of
+-- unit type t.
 pub data Kind : Type 0 where
   plain : ℕ → Kind
   money : Kind

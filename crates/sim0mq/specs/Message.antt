@@ -43,7 +43,8 @@ messageRest s h = do
   fs ← partAt (h .next) (payload (drop (h .next) s) (h .fields))
   fine (readingOf s h fs)
 
--- A message of at most `most` bytes: its length (8), the frames, the table's room (14), the fields and what follows them.
+-- A message of at most `most` bytes: its length (8), the frames, the table's room (14), the fields and what follows
+-- them.
 unfoldable pub message : ℕ → Lent → List ℕ → Answer Reading
 message most lent s = do
   guard (leb (length s) most) 8 0

@@ -18,7 +18,7 @@ use Rattle.sums_quantities.specs.declared.shown.Shown.{Shown}
 use Rattle.sums_pairs.specs.Pairs.{Quantity, quantityAt}
 use Rattle.sums_pairs.specs.Views.{combined}
 use Rattle.sums.specs.Sums.{Measured, measured, finite, isFinite, asScalar, answerOf, answer}
-use Rattle.sums.specs.Views.{readOf, combinedOf, told, resulting}
+use Rattle.sums.specs.Views.{readOf, combinedOf, shownAs, resulting}
 use Rattle.sums.proofs.RuleLaws.{IsRule, Strict, rule-strict}
 
 -- a scalar of any case but a double with its mark is refused by 17
@@ -99,11 +99,11 @@ module _ (rule : Quantity → Quantity → Answer Quantity) (op : Float → Floa
 
 -- a number as a scalar, where it is finite and where it is not
 module _ (u : ℕ) (x : Shown) where
-  pub not-finite : finite (x .value) ≡ false → told u x ≡ refused 25 0
-  unfolding told
+  pub not-finite : finite (x .value) ≡ false → shownAs u x ≡ refused 25 0
+  unfolding shownAs
   not-finite e = rw e
 
   pub is-finite : finite (x .value) ≡ true
-      → told u x ≡ fine (DoubleUnit (x .value) (record { unit = u; currency = 0; display = x .display }))
-  unfolding told
+      → shownAs u x ≡ fine (DoubleUnit (x .value) (record { unit = u; currency = 0; display = x .display }))
+  unfolding shownAs
   is-finite e = rw e

@@ -40,8 +40,8 @@ abbrev pub AreRead : Scalar → Scalar → Both → Type 0
 AreRead a b r = (rule : Quantity → Quantity → Answer Quantity) → combinedAs rule r ≡ combinedOf rule a b
 
 -- A number of this unit type as a scalar, where it is finite (25); and so what was combined.
-unfoldable pub told : ℕ → Shown → Answer Scalar
-told u x = do
+unfoldable pub shownAs : ℕ → Shown → Answer Scalar
+shownAs u x = do
   guard (finite (x .value)) 25 0
   fine (DoubleUnit (x .value) (record { unit = u; currency = 0; display = x .display }))
 

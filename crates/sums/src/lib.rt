@@ -5,7 +5,7 @@ ghost use Rattle.sim0mq.specs.Answer.{refused};
 ghost use Rattle.scalars.specs.Scalars.{valued};
 ghost use Rattle.sums_pairs.specs.Views.{seen};
 ghost use Rattle.sums.specs.Sums.{finite as finiteOf, sumOf, differenceOf};
-ghost use Rattle.sums.specs.Views.{knownAs, readOf, AreRead, told as toldOf, resulting};
+ghost use Rattle.sums.specs.Views.{knownAs, readOf, AreRead, shownAs, resulting};
 use encoding::mark_taken;
 use kinds::Mark;
 use kinds::Scalar;
@@ -78,7 +78,7 @@ fn finite(x: f64) -> bool
 
 // A number of this unit type as a scalar, where it is finite.
 fn told(unit: u8, x: Shown) -> Value
-    ensures { λ r. ⌜ valued r ≡ toldOf unit x ⌝ }
+    ensures { λ r. ⌜ valued r ≡ shownAs unit x ⌝ }
 {
     if !finite(x.value) {
         return refuse(25);

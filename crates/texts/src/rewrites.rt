@@ -1,4 +1,5 @@
-// Whether writing gives a message back: opened with the message's own ids, number, status and count, its fields added in turn, and closed.
+// Whether writing gives a message back: opened with the message's own ids, number, status and count, its fields added
+// in turn, and closed.
 use copies::BEFORE;
 use copies::touched;
 use fields::Fielded;
@@ -18,8 +19,8 @@ use writing::Writer;
 // How many bytes an output has past the message.
 const PAST: usize = 64;
 
-// The place after a line for each way of adding fields, encoded and by scalars, in which an accepted message is not given back, put from `from` on.
-// A message that is refused has no line.
+// The place after a line for each way of adding fields, encoded and by scalars, in which an accepted message is not
+// given back, put from `from` on. A message that is refused has no line.
 pub fn answer(message: &[u8], out: &mut [u8], from: usize) -> usize {
     let judged = reading::judge(message);
     let said = judged.said;
@@ -43,7 +44,8 @@ fn fault(well: bool, line: &[u8], out: &mut [u8], from: usize) -> usize {
     put(line, out, from)
 }
 
-// Whether an accepted message with these frames and so many fields is given back, in an output of some bytes more than it has.
+// Whether an accepted message with these frames and so many fields is given back, in an output of some bytes more than
+// it has.
 fn rewritten(message: &[u8], frames: [Frame; 8], fields: usize, by_scalars: bool) -> bool {
     let mut room = [BEFORE; ROOM];
     if ROOM - PAST < message.len() {

@@ -1,4 +1,5 @@
-// What asking answers, as text: a line with the value of a field or the refusal, then a line with the bytes of the field's view.
+// What asking answers, as text: a line with the value of a field or the refusal, then a line with the bytes of the
+// field's view.
 use kinds::Mark;
 use kinds::Scalar;
 use numbers::wide;

@@ -4,13 +4,15 @@ use lines::number;
 use lines::part;
 use pieces::put;
 
-// Where a token of a line ends, and the message's length after it: past the message's room where the token is not understood or does not fit.
+// Where a token of a line ends, and the message's length after it: past the message's room where the token is not
+// understood or does not fit.
 struct Step {
     at: usize,
     length: usize,
 }
 
-// The message's length after the bytes that `line` gives from `from` on; past the message's room where one is not understood or does not fit.
+// The message's length after the bytes that `line` gives from `from` on; past the message's room where one is not
+// understood or does not fit.
 pub fn added(line: &[u8], from: usize, message: &mut [u8], before: usize) -> usize {
     let mut at = from;
     let mut length = before;
@@ -84,7 +86,8 @@ fn named(line: &[u8], at: usize, message: &mut [u8], length: usize) -> Step {
     }
 }
 
-// The message's length after the header of S, the message of 000 section 2.3.6 as document 01 corrects it: frames 0 and 1, 2 and 3, 4, 5 to 7.
+// The message's length after the header of S, the message of 000 section 2.3.6 as document 01 corrects it: frames 0 and
+// 1, 2 and 3, 4, 5 to 7.
 fn front(message: &mut [u8], length: usize) -> usize {
     let mut at = put(
         b"\x09\0\0\0\x05SIM01\x09\0\0\0\x09IDVV.14.2",
@@ -123,7 +126,8 @@ fn counted(line: &[u8], at: usize, message: &mut [u8], length: usize) -> Step {
     }
 }
 
-// The message's length after `times` bytes of this value; past the message's room where they do not fit or it is no byte.
+// The message's length after `times` bytes of this value; past the message's room where they do not fit or it is no
+// byte.
 fn fill(value: usize, times: usize, message: &mut [u8], length: usize) -> usize {
     if 255 < value {
         return message.len() + 1;

@@ -28,8 +28,8 @@ fn size_of(s: &[u8], w: usize, n: usize, first: usize) -> Judged
     sim0mq::refuse(1, s.len())
 }
 
-// The number of bytes of n values of this code, all of which are there from `first` on. Each width has a way of its own, so that where the next field begins
-// does not wait for this one's code.
+// The number of bytes of n values of this code, all of which are there from `first` on. Each width has a way of its
+// own, so that where the next field begins does not wait for this one's code.
 pub fn size(s: &[u8], code: usize, n: usize, first: usize) -> Judged
     ensures { λ r. ⌜ judged r ≡ sizeAt (now (s .entry)) code n first ⌝ }
 {
@@ -52,7 +52,8 @@ pub fn size(s: &[u8], code: usize, n: usize, first: usize) -> Judged
     size_of(s, 8, n, first)
 }
 
-// A number that none of the n bytes from `at` on is above. It looks at all of them, whatever they are, so that many are looked at in one step.
+// A number that none of the n bytes from `at` on is above. It looks at all of them, whatever they are, so that many are
+// looked at in one step.
 fn largest(s: &[u8], n: usize, at: usize) -> u8
     requires { ⌜ at + n ≤ length (now s) ⌝ }
     ensures { λ r. ⌜ NoneAbove (now (s .entry)) n at r ⌝ }

@@ -18,8 +18,8 @@ fn turn(text: &[u8], run: Run, message: &mut [u8], expected: &mut [u8]) -> Run {
     runs::turn(line, run, message, expected)
 }
 
-// `end`: the case is run, and its listing, or what asking, blanking or writing answers, compared. An accepted message that writing does not give back
-// has a line more, which no case expects.
+// `end`: the case is run, and its listing, or what asking, blanking or writing answers, compared. An accepted message
+// that writing does not give back has a line more, which no case expects.
 fn end(text: &[u8], run: Run, message: &[u8], expected: &[u8]) -> Run {
     let mut told = [0u8; 16384];
     let own = part(message, 0, run.length);
@@ -28,8 +28,8 @@ fn end(text: &[u8], run: Run, message: &[u8], expected: &[u8]) -> Run {
     runs::ended(text, run, part(&told, 0, n), expected)
 }
 
-// The length of the answer of the case that has these lines, put at the front of `out`: of what asking, blanking or writing answers, or of the listing
-// of `message`.
+// The length of the answer of the case that has these lines, put at the front of `out`: of what asking, blanking or
+// writing answers, or of the listing of `message`.
 fn answer(run: Run, text: &[u8], message: &[u8], out: &mut [u8]) -> usize {
     if run.asks {
         return values::answer(message, run.field, out);

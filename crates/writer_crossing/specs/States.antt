@@ -10,7 +10,8 @@ use Rattle.writing.specs.declared.Writer.{Writer}
 use Rattle.writing.specs.declared.Wrote.{Wrote}
 use Rattle.crossing.specs.Numbers.{lengthNumbers}
 
--- The writer's state, 4 numbers: written, declared, added, and 1 where it is closed; and the state of such numbers, which is closed by any but 0.
+-- The writer's state, 4 numbers: written, declared, added, and 1 where it is closed; and the state of such numbers,
+-- which is closed by any but 0.
 abbrev pub stateNumbers : Writer → List ℕ
 stateNumbers w = w .written ∷ w .declared ∷ w .added ∷ cond (w .closed) 1 0 ∷ []
 

@@ -1,5 +1,5 @@
-// The writer's answers as numbers, stored in the answer that a caller lends, and its state and the count's type of numbers: what the calls for C and Rust
-// hand over.
+// The writer's answers as numbers, stored in the answer that a caller lends, and its state and the count's type of
+// numbers: what the calls for C and Rust hand over.
 ghost use mathlib.Core.Path.{_≡_};
 ghost use mathlib.Core.List.{_++_};
 ghost use Prim.Native.Nat.{_<_};
@@ -37,8 +37,8 @@ fn wrote_numbers(said: Judged, w: Writer) -> [u64; 7]
     }
 }
 
-// Stores the 7 numbers of what a call of the writer answers, and of the state that it hands back, in `answer`, and returns the first of them; 255, and
-// nothing is stored, where `answer` is too short.
+// Stores the 7 numbers of what a call of the writer answers, and of the state that it hands back, in `answer`, and
+// returns the first of them; 255, and nothing is stored, where `answer` is too short.
 pub fn give_wrote(w: Wrote, answer: &mut [u64]) -> u32
     ensures returned { λ r. ⌜ r ≡ returned 7 (now (answer .entry)) (wroteNumbers w) ⌝ }
     ensures answered { λ _. ⌜ now (answer .exit) ≡ answerAfter 7 (now (answer .entry)) (wroteNumbers w) ⌝ }

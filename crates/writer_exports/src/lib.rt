@@ -1,6 +1,6 @@
-// The library's calls for C and Rust that write: a slice crosses as a pointer and a length, the writer's state as numbers, and an answer as numbers in a
-// slice that the caller lends. Each returns 0 where it is granted, the refusal's number where it is refused, and 255 where the lent answer is too short;
-// then nothing is written.
+// The library's calls for C and Rust that write: a slice crosses as a pointer and a length, the writer's state as
+// numbers, and an answer as numbers in a slice that the caller lends. Each returns 0 where it is granted, the refusal's
+// number where it is refused, and 255 where the lent answer is too short; then nothing is written.
 ghost use mathlib.Core.Path.{_≡_};
 ghost use lib.ListN.{length};
 ghost use Rattle.writing.specs.Writing.{asksFor, encoded, scalar};
@@ -23,8 +23,8 @@ const ADD: usize = 7;
 
 const ADD_SCALAR: usize = 7;
 
-// Opens a message in `out`, with the type `kind` of its count where `stated` is not 0; answers the bytes written so far and the writer's state, in the
-// 7 numbers of `wroteNumbers`.
+// Opens a message in `out`, with the type `kind` of its count where `stated` is not 0; answers the bytes written so far
+// and the writer's state, in the 7 numbers of `wroteNumbers`.
 #[no_mangle]
 pub extern "C" fn sim0mq_open(
     ids: &[u8],
@@ -36,9 +36,21 @@ pub extern "C" fn sim0mq_open(
     out: &mut [u8],
     answer: &mut [u64],
 ) -> u32
-    ensures returned { λ r. ⌜ r ≡ returned 7 (now (answer .entry)) (openNumbers (asksFor (now (ids .entry)) number status fields (countType stated kind)) (length (now (out .entry)))) ⌝ }
-    ensures written { λ _. ⌜ now (out .exit) ≡ given 7 (now (answer .entry)) (openedIn (asksFor (now (ids .entry)) number status fields (countType stated kind)) (now (out .entry))) (now (out .entry)) ⌝ }
-    ensures answered { λ _. ⌜ now (answer .exit) ≡ answerAfter 7 (now (answer .entry)) (openNumbers (asksFor (now (ids .entry)) number status fields (countType stated kind)) (length (now (out .entry)))) ⌝ }
+    ensures returned { λ r. ⌜
+        r ≡ returned 7 (now (answer .entry))
+        (openNumbers (asksFor (now (ids .entry)) number status fields (countType stated kind)) (length (now (out .entry))))
+        ⌝ }
+    ensures written { λ _. ⌜
+        now (out .exit)
+        ≡ given 7 (now (answer .entry))
+        (openedIn (asksFor (now (ids .entry)) number status fields (countType stated kind)) (now (out .entry)))
+        (now (out .entry))
+        ⌝ }
+    ensures answered { λ _. ⌜
+        now (answer .exit)
+        ≡ answerAfter 7 (now (answer .entry))
+        (openNumbers (asksFor (now (ids .entry)) number status fields (countType stated kind)) (length (now (out .entry))))
+        ⌝ }
 {
     if answer.len() < OPEN {
         return TOO_SHORT;
@@ -65,9 +77,21 @@ pub extern "C" fn sim0mq_add(
     out: &mut [u8],
     answer: &mut [u64],
 ) -> u32
-    ensures returned { λ r. ⌜ r ≡ returned 7 (now (answer .entry)) (addNumbers (writerOf written declared added closed) (length (now (out .entry))) (encoded (now (field .entry)))) ⌝ }
-    ensures written { λ _. ⌜ now (out .exit) ≡ given 7 (now (answer .entry)) (addedIn (writerOf written declared added closed) (now (out .entry)) (encoded (now (field .entry)))) (now (out .entry)) ⌝ }
-    ensures answered { λ _. ⌜ now (answer .exit) ≡ answerAfter 7 (now (answer .entry)) (addNumbers (writerOf written declared added closed) (length (now (out .entry))) (encoded (now (field .entry)))) ⌝ }
+    ensures returned { λ r. ⌜
+        r ≡ returned 7 (now (answer .entry))
+        (addNumbers (writerOf written declared added closed) (length (now (out .entry))) (encoded (now (field .entry))))
+        ⌝ }
+    ensures written { λ _. ⌜
+        now (out .exit)
+        ≡ given 7 (now (answer .entry))
+        (addedIn (writerOf written declared added closed) (now (out .entry)) (encoded (now (field .entry))))
+        (now (out .entry))
+        ⌝ }
+    ensures answered { λ _. ⌜
+        now (answer .exit)
+        ≡ answerAfter 7 (now (answer .entry))
+        (addNumbers (writerOf written declared added closed) (length (now (out .entry))) (encoded (now (field .entry))))
+        ⌝ }
 {
     if answer.len() < ADD {
         return TOO_SHORT;
@@ -91,9 +115,21 @@ pub extern "C" fn sim0mq_add_scalar(
     out: &mut [u8],
     answer: &mut [u64],
 ) -> u32
-    ensures returned { λ r. ⌜ r ≡ returned 7 (now (answer .entry)) (addNumbers (writerOf written declared added closed) (length (now (out .entry))) (scalar (scalarFrom kind bits (markFrom unit currency display)))) ⌝ }
-    ensures written { λ _. ⌜ now (out .exit) ≡ given 7 (now (answer .entry)) (addedIn (writerOf written declared added closed) (now (out .entry)) (scalar (scalarFrom kind bits (markFrom unit currency display)))) (now (out .entry)) ⌝ }
-    ensures answered { λ _. ⌜ now (answer .exit) ≡ answerAfter 7 (now (answer .entry)) (addNumbers (writerOf written declared added closed) (length (now (out .entry))) (scalar (scalarFrom kind bits (markFrom unit currency display)))) ⌝ }
+    ensures returned { λ r. ⌜
+        r ≡ returned 7 (now (answer .entry))
+        (addNumbers (writerOf written declared added closed) (length (now (out .entry))) (scalar (scalarFrom kind bits (markFrom unit currency display))))
+        ⌝ }
+    ensures written { λ _. ⌜
+        now (out .exit)
+        ≡ given 7 (now (answer .entry))
+        (addedIn (writerOf written declared added closed) (now (out .entry)) (scalar (scalarFrom kind bits (markFrom unit currency display))))
+        (now (out .entry))
+        ⌝ }
+    ensures answered { λ _. ⌜
+        now (answer .exit)
+        ≡ answerAfter 7 (now (answer .entry))
+        (addNumbers (writerOf written declared added closed) (length (now (out .entry))) (scalar (scalarFrom kind bits (markFrom unit currency display))))
+        ⌝ }
 {
     if answer.len() < ADD_SCALAR {
         return TOO_SHORT;
@@ -117,8 +153,13 @@ pub extern "C" fn sim0mq_close(
     closed: u8,
     answer: &mut [u64],
 ) -> u32
-    ensures returned { λ r. ⌜ r ≡ returned 7 (now (answer .entry)) (closeNumbers (writerOf written declared added closed)) ⌝ }
-    ensures answered { λ _. ⌜ now (answer .exit) ≡ answerAfter 7 (now (answer .entry)) (closeNumbers (writerOf written declared added closed)) ⌝ }
+    ensures returned { λ r. ⌜
+        r ≡ returned 7 (now (answer .entry)) (closeNumbers (writerOf written declared added closed))
+        ⌝ }
+    ensures answered { λ _. ⌜
+        now (answer .exit)
+        ≡ answerAfter 7 (now (answer .entry)) (closeNumbers (writerOf written declared added closed))
+        ⌝ }
 {
     let w = writer_of(written, declared, added, closed).close();
     give_wrote(w, answer)

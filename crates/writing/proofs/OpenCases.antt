@@ -4,10 +4,10 @@ use mathlib.Core.Path.{_≡_, sym, ap, _∙_}
 use mathlib.Core.Bool.{true, false}
 use mathlib.Core.List.{List}
 use lib.IntN.{ℤ}
-use Rattle.sim0mq.specs.Answer.{Answer, fine, refused}
+use Rattle.sim0mq.specs.Answer.{Answer, fine, refused, lengthOf}
 use Rattle.sim0mq.specs.declared.Judged.the-variants.{Accepted, Refused}
 use Rattle.sim0mq.proofs.Answers.{not-fine, fine-eq}
-use Rattle.opening.specs.Opening.{headerGiven, lengthOf, bufferAfter}
+use Rattle.opening.specs.Opening.{headerGiven, bufferAfter}
 use Rattle.writing.specs.declared.Wrote.{Wrote}
 use Rattle.writing.specs.Writing.{Opening, countCode, opening, afterOpening}
 

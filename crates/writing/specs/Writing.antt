@@ -17,7 +17,8 @@ use Rattle.writing.specs.declared.CountType.the-variants.{Unstated, Stat
 use Rattle.writing.specs.declared.Writer.{Writer}
 use Rattle.writing.specs.declared.Wrote.{Wrote}
 
--- What opening is asked for: the four ids as encoded frames, the message number, the status, the declared number of fields, the type of that count.
+-- What opening is asked for: the four ids as encoded frames, the message number, the status, the declared number of
+-- fields, the type of that count.
 pub record Opening : Type 0 where
   pub ids : List ℕ
   pub number : ℤ
@@ -64,14 +65,16 @@ adding w room g = do
   l ← fieldGiven g
   fitting (w .written) room l
 
--- Closing: 15 where the state is closed, has written too much, or not exactly the declared number was added; the answer is the message's length.
+-- Closing: 15 where the state is closed, has written too much, or not exactly the declared number was added; the answer
+-- is the message's length.
 unfoldable pub closing : Writer → Answer ℕ
 closing w = do
   guard (not (w .closed) && (leb (w .written) limit && eqb (w .added) (w .declared))) 15 0
   fine (w .written)
 
--- What each call hands back: its answer, which where it is granted is the number of bytes written so far, and the state. A refused opening hands
--- back a closed state with every number 0; a refused adding or closing the state it took.
+-- What each call hands back: its answer, which where it is granted is the number of bytes written so far, and the
+-- state. A refused opening hands back a closed state with every number 0; a refused adding or closing the state it
+-- took.
 abbrev pub afterOpening : Opening → Answer (List ℕ) → Wrote
 afterOpening o (fine text) =
     record { said = Accepted (length text); writer = record { written = length text; declared = o .fields; added = 0; closed = false } }

@@ -20,7 +20,8 @@ pub enum CountType {
     Stated(u8),
 }
 
-// The writer's state: the bytes written so far, the declared number of fields, how many were added, and whether it is closed.
+// The writer's state: the bytes written so far, the declared number of fields, how many were added, and whether it is
+// closed.
 pub struct Writer {
     pub written: usize,
     pub declared: usize,
@@ -74,7 +75,11 @@ fn takes(w: Writer, room: usize) -> bool
 fn append(w: Writer, text: &[u8], out: &mut [u8]) -> Wrote
     requires { ⌜ takesField w (length (now out)) ≡ true ⌝ }
     ensures answer { λ r. ⌜ r ≡ afterAdding w (fitting (w .written) (length (now (out .entry))) (now (text .entry))) ⌝ }
-    ensures written { λ _. ⌜ now (out .exit) ≡ bufferAfter (now (out .entry)) (w .written) (fitting (w .written) (length (now (out .entry))) (now (text .entry))) ⌝ }
+    ensures written { λ _. ⌜
+        now (out .exit)
+        ≡ bufferAfter (now (out .entry)) (w .written)
+        (fitting (w .written) (length (now (out .entry))) (now (text .entry)))
+        ⌝ }
 {
     let at = w.written;
     if LIMIT - at < text.len() {
@@ -97,7 +102,8 @@ fn append(w: Writer, text: &[u8], out: &mut [u8]) -> Wrote
 }
 
 impl Writer {
-    // Opens a message in `out` and writes its header; the ids are four encoded frames. Refused, it hands back a closed state with every number 0.
+    // Opens a message in `out` and writes its header; the ids are four encoded frames. Refused, it hands back a closed
+    // state with every number 0.
     pub fn open(
         ids: &[u8],
         number: i64,
@@ -106,8 +112,15 @@ impl Writer {
         kind: CountType,
         out: &mut [u8],
     ) -> Wrote
-        ensures answer { λ r. ⌜ r ≡ afterOpening (asksFor (now (ids .entry)) number status fields kind) (opening (asksFor (now (ids .entry)) number status fields kind) (length (now (out .entry)))) ⌝ }
-        ensures written { λ _. ⌜ now (out .exit) ≡ bufferAfter (now (out .entry)) 0 (opening (asksFor (now (ids .entry)) number status fields kind) (length (now (out .entry)))) ⌝ }
+        ensures answer { λ r. ⌜
+            r ≡ afterOpening (asksFor (now (ids .entry)) number status fields kind)
+            (opening (asksFor (now (ids .entry)) number status fields kind) (length (now (out .entry))))
+            ⌝ }
+        ensures written { λ _. ⌜
+            now (out .exit)
+            ≡ bufferAfter (now (out .entry)) 0
+            (opening (asksFor (now (ids .entry)) number status fields kind) (length (now (out .entry))))
+            ⌝ }
     {
         let code = code_of(kind);
         match write_header(ids, number, status, code, fields, out) {
@@ -134,8 +147,14 @@ impl Writer {
 
     // Adds an encoded field; refused, it hands back the state that it took.
     pub fn add(self, field: &[u8], out: &mut [u8]) -> Wrote
-        ensures answer { λ r. ⌜ r ≡ afterAdding self (adding self (length (now (out .entry))) (encoded (now (field .entry)))) ⌝ }
-        ensures written { λ _. ⌜ now (out .exit) ≡ bufferAfter (now (out .entry)) (self .written) (adding self (length (now (out .entry))) (encoded (now (field .entry)))) ⌝ }
+        ensures answer { λ r. ⌜
+            r ≡ afterAdding self (adding self (length (now (out .entry))) (encoded (now (field .entry))))
+            ⌝ }
+        ensures written { λ _. ⌜
+            now (out .exit)
+            ≡ bufferAfter (now (out .entry)) (self .written)
+            (adding self (length (now (out .entry))) (encoded (now (field .entry))))
+            ⌝ }
     {
         if !takes(self, out.len()) {
             return refused(15, 0, self);
@@ -150,7 +169,10 @@ impl Writer {
     // Adds a scalar as asking returns it; refused, it hands back the state that it took.
     pub fn add_scalar(self, value: Scalar, out: &mut [u8]) -> Wrote
         ensures answer { λ r. ⌜ r ≡ afterAdding self (adding self (length (now (out .entry))) (scalar value)) ⌝ }
-        ensures written { λ _. ⌜ now (out .exit) ≡ bufferAfter (now (out .entry)) (self .written) (adding self (length (now (out .entry))) (scalar value)) ⌝ }
+        ensures written { λ _. ⌜
+            now (out .exit)
+            ≡ bufferAfter (now (out .entry)) (self .written) (adding self (length (now (out .entry))) (scalar value))
+            ⌝ }
     {
         if !takes(self, out.len()) {
             return refused(15, 0, self);
@@ -164,7 +186,8 @@ impl Writer {
         append(self, &bytes[..n], out)
     }
 
-    // The length of the finished message, and the same state, now closed; refused, it hands back the state that it took.
+    // The length of the finished message, and the same state, now closed; refused, it hands back the state that it
+    // took.
     pub fn close(self) -> Wrote
         ensures { λ r. ⌜ r ≡ afterClosing self (closing self) ⌝ }
     {

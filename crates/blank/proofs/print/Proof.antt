@@ -1,5 +1,5 @@
--- blank::print is safe: a copy that was made lies within its array, since blanking answers no length past the room it was lent.
--- Assumes nothing.
+-- blank::print is safe: a copy that was made lies within its array, since blanking answers no length past the room it
+-- was lent. Assumes nothing.
 use borrow.Author.Needs.{needs}
 use native.Mathlib.Omega.{arith}
 use mathlib.Core.Path.{sym, ap, _∙_}

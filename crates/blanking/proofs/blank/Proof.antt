@@ -1,10 +1,10 @@
 -- What stands before the payload is refused, or the copy of the rest is made.
 use mathlib.Core.Path.{sym, ap, _∙_}
 use lib.ListN.{length}
+use Rattle.sim0mq.specs.Answer.{lengthOf}
 use Rattle.sim0mq.specs.Blank.{outputAfter}
 use Rattle.header.specs.declared.Answer.{Answer}
 use Rattle.front.proofs.FrontCases.{told-refused, told-accepted}
-use Rattle.blanking.specs.Blanking.{lengthOf}
 use Rattle.blanking.proofs.BlankCases.{blank-closed, blank-copyable, blank-is}
 use borrow.Author.Needs.{needs}
 use Rattle.blanking.proofs.blank.Statement.{statement}
@@ -25,7 +25,7 @@ copied-requires c κs =
     blank-copyable 0 _ (h .0) (h .1) _ _ (h .2) (h .3)
 
 returns : tie.Need-returns
-unfolding lengthOf outputAfter
+unfolding outputAfter
 returns c =
     let stopped = told-refused _ _ _ _ (sym (ap (λ (x : Answer). x .said) (c .before .before .before .opened .ensures)) ∙ c .before .said .given .1) in
     let e = blank-closed (length (c .before .before .before .before .before .before .args .out .now)) _ _ _ stopped in

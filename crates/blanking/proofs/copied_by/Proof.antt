@@ -1,11 +1,12 @@
--- Each return is a case of the definition: the payload's refusal, too little room, or the copy, whose fields' rows were kept.
+-- Each return is a case of the definition: the payload's refusal, too little room, or the copy, whose fields' rows were
+-- kept.
 use native.Mathlib.Omega.{arith}
 use mathlib.Core.Path.{refl, sym, ap, _∙_}
 use lib.ListN.{length}
 use lib.Seq.{length-take-le}
+use Rattle.sim0mq.specs.Answer.{lengthOf}
 use Rattle.sim0mq.specs.Blank.{outputAfter}
-use Rattle.sim0mq.specs.Views.{judged as told}
-use Rattle.blanking.specs.Blanking.{lengthOf}
+use Rattle.sim0mq.specs.Views.{judged}
 use Rattle.blanking.proofs.BlankCases.{copy-refused, copy-short, copy-blankable, copy-made}
 use borrow.Author.Needs.{needs}
 use Rattle.blanking.proofs.copied_by.Statement.{statement}
@@ -27,9 +28,9 @@ same-length : tie.Need-same-length
 same-length c = search needs
 
 returns : tie.Need-returns
-unfolding lengthOf outputAfter
+unfolding outputAfter
 returns c =
-    let said = sym (c .before .before .before .before .before .before .payload .ensures .0 .0) ∙ ap told (c .before .before .enum-told .given .1) in
+    let said = sym (c .before .before .before .before .before .before .payload .ensures .0 .0) ∙ ap judged (c .before .before .enum-told .given .1) in
     let short = copy-short (length (c .before .before .before .before .before .before .before .before .before .before .before .args .out .now)) _ _ _ _ (c .before .before .before .before .before .before .before .before .before .before .before .pre) _ said (c .before .if1 .taken) in
     (c .refuse .ensures ∙ sym (ap lengthOf short), sym (ap (outputAfter (c .before .before .before .before .before .before .before .before .before .before .before .args .out .now)) short))
 
@@ -43,16 +44,16 @@ put-requires c κs = search needs
 
 blank-fields-requires : tie.Need-blank-fields-requires
 blank-fields-requires c κs =
-    let said = sym (c .before .before .before .before .before .before .before .before .before .before .before .before .payload .ensures .0 .0) ∙ ap told (c .before .before .before .before .before .before .before .before .enum-told .given .1) in
+    let said = sym (c .before .before .before .before .before .before .before .before .before .before .before .before .payload .ensures .0 .0) ∙ ap judged (c .before .before .before .before .before .before .before .before .enum-told .given .1) in
     copy-blankable 0 _ _ _ _ (c .before .before .before .before .before .before .before .before .before .before .before .before .before .before .before .before .before .pre) _ said _ _ _ refl (c .before .before .before .before .before .before .before .before .before .before .before .before .payload .ensures .1) (omega arith)
 
 same-length-2 : tie.Need-same-length-2
 same-length-2 c = search needs
 
 returns-2 : tie.Need-returns-2
-unfolding lengthOf outputAfter
+unfolding outputAfter
 returns-2 c =
-    let said = sym (c .before .before .before .before .before .payload .ensures .0 .0) ∙ ap told (c .before .r .given .1) in
+    let said = sym (c .before .before .before .before .before .payload .ensures .0 .0) ∙ ap judged (c .before .r .given .1) in
     let stopped = copy-refused (length (c .before .before .before .before .before .before .before .before .before .before .args .out .now)) _ _ _ _ (c .before .before .before .before .before .before .before .before .before .before .pre) _ _ said in
     (sym (ap lengthOf stopped), sym (ap (outputAfter (c .before .before .before .before .before .before .before .before .before .before .args .out .now)) stopped))
 
@@ -64,7 +65,7 @@ same-length-4 c = search needs
 
 returns-3 : tie.Need-returns-3
 returns-3 c =
-    let said = sym (c .before .before .before .before .before .before .before .before .before .before .before .before .before .before .before .payload .ensures .0 .0) ∙ ap told (c .before .before .before .before .before .before .before .before .before .before .before .enum-told .given .1) in
+    let said = sym (c .before .before .before .before .before .before .before .before .before .before .before .before .before .before .before .payload .ensures .0 .0) ∙ ap judged (c .before .before .before .before .before .before .before .before .before .before .before .enum-told .given .1) in
     copy-made _ _ _ _ _ (c .before .before .before .before .before .before .before .before .before .before .before .before .before .before .before .before .before .before .before .before .pre) _ said _ _ _ refl (omega arith) (c .before .before .before .before .before .before .before .put .ensures) (c .before .before .blank-fields .ensures)
 
 pub copied-by-spec : {M : Type 1} → statement M

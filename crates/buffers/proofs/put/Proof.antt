@@ -1,4 +1,5 @@
--- Where there is room, the text's one byte is stored at `at`, or the text is copied to the front of the part of `out` from `at` on.
+-- Where there is room, the text's one byte is stored at `at`, or the text is copied to the front of the part of `out`
+-- from `at` on.
 use borrow.Author.Needs.{needs}
 use native.Mathlib.Omega.{arith}
 use Prim.Native.Nat.{_+_, _≤_}

@@ -2,7 +2,7 @@
 use borrow.Author.Needs.{needs}
 use mathlib.Core.Path.{sym, ap, _∙_}
 use Rattle.sim0mq.specs.Table.{rowSize}
-use Rattle.commands.specs.Names.{told}
+use Rattle.commands.specs.Names.{commandAs}
 use Rattle.commands.proofs.ReadLaws.{by-found, by-refused, by-all}
 use Rattle.commands.proofs.command.Statement.{statement}
 use Rattle.commands.proofs.command.Tie as tie
@@ -20,7 +20,7 @@ enum-known-r : tie.Need-enum-known-r
 enum-known-r c = search needs
 
 returns : tie.Need-returns
-returns c = by-refused _ _ _ _ (sym (ap told (c .before .before .before .r .given .1)) ∙ c .before .before .before .before .before .before .command-by .ensures) (c .if1 .taken)
+returns c = by-refused _ _ _ _ (sym (ap commandAs (c .before .before .before .r .given .1)) ∙ c .before .before .before .before .before .before .command-by .ensures) (c .if1 .taken)
 
 slice-aggregate-command-by-2 : tie.Need-slice-aggregate-command-by-2
 slice-aggregate-command-by-2 c = search needs
@@ -29,7 +29,7 @@ command-by-requires-2 : tie.Need-command-by-requires-2
 command-by-requires-2 c κs = search needs
 
 returns-2 : tie.Need-returns-2
-returns-2 c = by-found _ _ _ (sym (ap told (c .before .name .given .1)) ∙ c .before .before .before .before .command-by .ensures)
+returns-2 c = by-found _ _ _ (sym (ap commandAs (c .before .name .given .1)) ∙ c .before .before .before .before .command-by .ensures)
 
 returns-3 : tie.Need-returns-3
 unfolding rowSize

@@ -5,12 +5,12 @@ use Rattle.sim0mq.specs.Mark.{currencyTaken}
 use Rattle.sim0mq.proofs.Rows.{allBelow}
 use Rattle.tables.specs.Bits.{bit}
 use Rattle.tables.proofs.TableCases.{none-below}
-use Rattle.displays.proofs.CurrencyCases.{alike, told, word-told, none-told}
+use Rattle.displays.proofs.CurrencyCases.{alike, agrees, word-told, none-told}
 use Rattle.displays.proofs.currencies.Statement.{statement}
 use Rattle.displays.proofs.currencies.Tie as tie
 
 pub currencies-spec : {M : Type 1} → statement M
-unfolding told alike allBelow bit currencyTaken among
+unfolding agrees alike allBelow bit currencyTaken among
 currencies-spec =
     tie.close
     (tie.spec

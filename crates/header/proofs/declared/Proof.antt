@@ -1,4 +1,5 @@
--- The frame is taken as one of a count's type, whose value bytes are there; the tests of their number are the definition's.
+-- The frame is taken as one of a count's type, whose value bytes are there; the tests of their number are the
+-- definition's.
 use native.Mathlib.Omega.{arith}
 use borrow.Author.Needs.{needs}
 use mathlib.Core.Path.{sym, ap, _∙_}

@@ -1,5 +1,5 @@
--- input::fill meets its contract and ends: each turn but the last reads a byte at least. The invariant: what was read stands within the buffer, which keeps its length.
--- Assumes nothing.
+-- input::fill meets its contract and ends: each turn but the last reads a byte at least. The invariant: what was read
+-- stands within the buffer, which keeps its length. Assumes nothing.
 use Prim.Native.Nat.{_-_, _≤_}
 use mathlib.Core.Path.{_≡_}
 use lib.ListN.{length}

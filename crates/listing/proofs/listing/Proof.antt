@@ -1,5 +1,5 @@
--- listing::listing meets its contract: the rows are put after the first line, and nothing is put where the table is too short for them.
--- Assumes nothing.
+-- listing::listing meets its contract: the rows are put after the first line, and nothing is put where the table is too
+-- short for them. Assumes nothing.
 use Prim.Native.Nat.{ℕ, _*_, _/_, _<_, _≤_}
 use native.Mathlib.Omega.{arith}
 use mathlib.Core.Path.{_≡_, refl, sym, _∙_, ap}
@@ -14,7 +14,7 @@ use Rattle.sim0mq.specs.declared.Refusal.{Refusal}
 use Rattle.reading.specs.declared.Found.{Found}
 use Rattle.reading.specs.declared.Reading.{Reading}
 use Rattle.reading.specs.declared.Reading.the-variants.{Accepted, Refused}
-use Rattle.listing.specs.Put.{Buffer, putAll, outAfter, bytesBefore, bytesOf}
+use Rattle.listing.specs.Put.{Buffer, putAll, outAfter, bytesBefore, bytesWritten}
 use Rattle.listing.specs.Text.{acceptedText, rowsText, lineText, wholeText}
 use Rattle.listing.proofs.PutCases.{put-append, put-told}
 use Rattle.listing.proofs.listing.Statement.{statement}
@@ -31,8 +31,8 @@ unfolding enough rowSize
 long said f table e h = rw (e, le-leb (rowSize * f .fields) (length table) (omega arith))
 
 -- no text leaves the buffer as it was, and has no bytes
-nothing : (out : List ℕ) (text : List (List ℕ)) → text ≡ [] → (0 ≡ bytesOf out text) × (out ≡ outAfter out text)
-unfolding bytesBefore bytesOf outAfter putAll flatMap
+nothing : (out : List ℕ) (text : List (List ℕ)) → text ≡ [] → (0 ≡ bytesWritten out text) × (out ≡ outAfter out text)
+unfolding bytesBefore bytesWritten outAfter putAll flatMap
 nothing out text e = rw e (rw (leb·zero (length out)) refl, refl)
 
 -- the text of a refusal is its first line
@@ -95,7 +95,7 @@ returns-3 c =
     let a = l .before .before .before .before .before .before .args in
     let e = one-line _ _ (a .table .now) (l .before .before .enum-told .given .1) in
     let told = l .first-line .ensures in
-    (told .0, (told .1 .0 ∙ ap (bytesOf (a .out .now)) e, told .1 .1 ∙ ap (outAfter (a .out .now)) e))
+    (told .0, (told .1 .0 ∙ ap (bytesWritten (a .out .now)) e, told .1 .1 ∙ ap (outAfter (a .out .now)) e))
 
 pub listing-spec : {M : Type 1} → statement M
 listing-spec =

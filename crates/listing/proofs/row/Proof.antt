@@ -1,5 +1,5 @@
--- listing::row meets its contract. The invariant: putting the pieces from number j on, where the buffer stands, comes to putting all of them.
--- Assumes nothing.
+-- listing::row meets its contract. The invariant: putting the pieces from number j on, where the buffer stands, comes
+-- to putting all of them. Assumes nothing.
 use Prim.Native.Nat.{ℕ, _+_, _-_, _<_, _≤_}
 use native.Mathlib.Omega.{arith}
 use native.Mathlib.Numerals.{add-one}

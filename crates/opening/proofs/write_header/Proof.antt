@@ -4,9 +4,9 @@ use mathlib.Core.Path.{sym, ap, _∙_}
 use lib.ListN.{length}
 use mir.Syntax.{w64}
 use mir.ValLaws.{toZ-ofZ}
-use Rattle.sim0mq.specs.Answer.{fine}
+use Rattle.sim0mq.specs.Answer.{fine, lengthOf}
 use Rattle.sim0mq.specs.Views.{judged}
-use Rattle.opening.specs.Opening.{lengthOf, bufferAfter}
+use Rattle.opening.specs.Opening.{bufferAfter}
 use Rattle.opening.proofs.HeaderCases.{given-refused, given-granted}
 use Rattle.opening.proofs.write_header.Statement.{statement}
 use Rattle.opening.proofs.write_header.Tie as tie

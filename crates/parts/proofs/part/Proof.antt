@@ -1,5 +1,6 @@
--- The answer from here is the answer of the whole, and what is kept from here on is what is kept of the whole: outside, from the next field on; inside, from the
--- field's next mark on. No step lacks a byte, so there are no more steps than bytes.
+-- The answer from here is the answer of the whole, and what is kept from here on is what is kept of the whole: outside,
+-- from the next field on; inside, from the field's next mark on. No step lacks a byte, so there are no more steps than
+-- bytes.
 use borrow.Author.Needs.{needs}
 use native.Mathlib.Omega.{arith}
 use Prim.Native.Nat.{ℕ, _+_, _-_, _<_, _≤_}
@@ -13,7 +14,7 @@ use Rattle.sim0mq.specs.Table.{rowSize}
 use Rattle.sim0mq.specs.Views.{judged}
 use Rattle.heads.specs.Heads.{headed}
 use Rattle.parts.specs.Parts.{stepsFrom, partSteps}
-use Rattle.parts.specs.Kept.{front, keptAll, keptPart}
+use Rattle.parts.specs.Kept.{beforeFault, keptAll, keptPart}
 use Rattle.marks.proofs.MarkCases.{marks-done, marks-more, marks-stop}
 use Rattle.marks.proofs.ByLaws.{mark-by-last}
 use Rattle.parts.proofs.PartCases.{mark-goes, head-goes, values-goes, field-head-stop, field-mark-stop, field-values-stop, field-taken, taken-end, field-small, steps-over, steps-end, steps-stop, steps-more}
@@ -33,7 +34,7 @@ Inv-fields s base n k kept₀ many last left₀ at₀ steps₀ kept left at step
     (partSteps s n ≡ stepsFrom s left at steps)
     × (steps ≤ at)
     × (at ≤ length s)
-    × (keptPart s base n k kept₀ ≡ keptAll many k (n - left) (map (moved base) (front s left at)) kept)
+    × (keptPart s base n k kept₀ ≡ keptAll many k (n - left) (map (moved base) (beforeFault s left at)) kept)
     × (left ≤ n)
     × (length kept ≡ length kept₀)
     × (length s < 18446744073709551616)

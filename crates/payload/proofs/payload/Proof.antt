@@ -1,4 +1,5 @@
--- The part is judged by itself, and its refusal moved to its place in the message; past the message's end there is no part.
+-- The part is judged by itself, and its refusal moved to its place in the message; past the message's end there is no
+-- part.
 use borrow.Author.Needs.{needs}
 use native.Mathlib.Omega.{arith}
 use Prim.Native.Nat.{ℕ, _+_, _-_}

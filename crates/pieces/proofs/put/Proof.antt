@@ -1,5 +1,5 @@
--- pieces::put meets its contract. The invariant: after i turns the buffer is what it was with the first i bytes of the text pasted in.
--- Assumes nothing.
+-- pieces::put meets its contract. The invariant: after i turns the buffer is what it was with the first i bytes of the
+-- text pasted in. Assumes nothing.
 use Prim.Native.Nat.{ℕ, _+_, _-_, _<_, _≤_}
 use native.Mathlib.Omega.{arith}
 use native.Mathlib.Numerals.{add-one}

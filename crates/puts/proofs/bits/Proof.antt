@@ -1,4 +1,5 @@
--- A number not below 0 is its own bits; the bits of one below 0 are those of -1 less it, taken from the width's largest number.
+-- A number not below 0 is its own bits; the bits of one below 0 are those of -1 less it, taken from the width's largest
+-- number.
 use native.Mathlib.Omega.{arith}
 use mir.Syntax.{w64}
 use Rattle.signed.proofs.Signed.{up, down, down-fits}

@@ -1,4 +1,5 @@
--- Where there is room, each turn stores the last byte that is left and goes on with the number before it. The invariant: what is left to store, stored, gives the answer.
+-- Where there is room, each turn stores the last byte that is left and goes on with the number before it. The
+-- invariant: what is left to store, stored, gives the answer.
 use borrow.Author.Needs.{needs}
 use native.Mathlib.Omega.{arith}
 use Prim.Native.Nat.{ℕ, _+_, _-_, _%_, _≤_}

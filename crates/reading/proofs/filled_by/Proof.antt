@@ -1,4 +1,5 @@
--- Refused, the table is as it was; accepted, the rows that were kept are copied to it, and they are those of the message.
+-- Refused, the table is as it was; accepted, the rows that were kept are copied to it, and they are those of the
+-- message.
 use native.Mathlib.Omega.{arith}
 use Prim.Native.Nat.{_+_}
 use mathlib.Core.Path.{refl, sym, ap, _∙_, subst}

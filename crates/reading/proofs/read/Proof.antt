@@ -1,4 +1,5 @@
--- What stands before the payload and what its reader says are the answer; the rows are stored only where both accept, and are those of the message.
+-- What stands before the payload and what its reader says are the answer; the rows are stored only where both accept,
+-- and are those of the message.
 use mathlib.Core.Path.{refl, sym, ap, _∙_}
 use Rattle.header.specs.declared.Answer.{Answer}
 use Rattle.reading.specs.Answers.{answerOf}

@@ -11,7 +11,7 @@ use Rattle.kinds.specs.declared.Scalar.{Scalar}
 use Rattle.kinds.specs.declared.Scalar.the-variants.{Boolean, Char8, Char16}
 use Rattle.kinds.specs.Kinds.{withFloat, withDouble}
 use Rattle.scalars.specs.Scalars.{scalarOf}
-use Rattle.scalars.proofs.ScalarCases.{told, by-code, mark-there, no-scalar}
+use Rattle.scalars.proofs.ScalarCases.{number-is, by-code, mark-there, no-scalar}
 use Rattle.scalars.proofs.further.Statement.{statement}
 use Rattle.scalars.proofs.further.Tie as tie
 
@@ -20,7 +20,7 @@ number-requires c κs = search needs
 
 returns : tie.Need-returns
 unfolding scalarOf countsOf widthOf
-returns c = ap (λ (n : ℕ). fine (Boolean (ltb 0 n))) (told _ _ (c .before .before .before .before .pre .0) 6 1 _ (c .before .if1 .taken) refl refl (omega arith) (c .number .ensures .0)) ∙ by-code _ (seen (c .before .before .before .before .args .f)) 6 (c .before .if1 .taken)
+returns c = ap (λ (n : ℕ). fine (Boolean (ltb 0 n))) (number-is _ _ (c .before .before .before .before .pre .0) 6 1 _ (c .before .if1 .taken) refl refl (omega arith) (c .number .ensures .0)) ∙ by-code _ (seen (c .before .before .before .before .args .f)) 6 (c .before .if1 .taken)
 
 number-requires-2 : tie.Need-number-requires-2
 number-requires-2 c κs = search needs
@@ -30,7 +30,7 @@ cast-t9 c = search needs
 
 returns-2 : tie.Need-returns-2
 unfolding scalarOf countsOf widthOf
-returns-2 c = ap (λ (n : ℕ). fine (Char8 n)) (told _ _ (c .before .before .before .before .before .before .pre .0) 7 1 _ (c .before .if2 .taken) refl refl (omega arith) (c .number2 .ensures .0)) ∙ by-code _ (seen (c .before .before .before .before .before .before .args .f)) 7 (c .before .if2 .taken)
+returns-2 c = ap (λ (n : ℕ). fine (Char8 n)) (number-is _ _ (c .before .before .before .before .before .before .pre .0) 7 1 _ (c .before .if2 .taken) refl refl (omega arith) (c .number2 .ensures .0)) ∙ by-code _ (seen (c .before .before .before .before .before .before .args .f)) 7 (c .before .if2 .taken)
 
 number-requires-3 : tie.Need-number-requires-3
 number-requires-3 c κs = search needs
@@ -40,7 +40,7 @@ cast-t12 c = search needs
 
 returns-3 : tie.Need-returns-3
 unfolding scalarOf countsOf widthOf
-returns-3 c = ap (λ (n : ℕ). fine (Char16 n)) (told _ _ (c .before .before .before .before .before .before .before .before .pre .0) 8 2 _ (c .before .if3 .taken) refl refl (omega arith) (c .number3 .ensures .0)) ∙ by-code _ (seen (c .before .before .before .before .before .before .before .before .args .f)) 8 (c .before .if3 .taken)
+returns-3 c = ap (λ (n : ℕ). fine (Char16 n)) (number-is _ _ (c .before .before .before .before .before .before .before .before .pre .0) 8 2 _ (c .before .if3 .taken) refl refl (omega arith) (c .number3 .ensures .0)) ∙ by-code _ (seen (c .before .before .before .before .before .before .before .before .args .f)) 8 (c .before .if3 .taken)
 
 number-requires-4 : tie.Need-number-requires-4
 number-requires-4 c κs = search needs
@@ -61,7 +61,7 @@ float-with-requires c κs = search needs
 
 returns-4 : tie.Need-returns-4
 unfolding scalarOf countsOf widthOf
-returns-4 c = ap (λ (v : Scalar). fine v) (c .float-with .ensures ∙ ap₂ withFloat (told _ _ (c .before .before .before .before .before .before .before .before .before .before .before .before .before .pre .0) 25 4 _ (c .before .before .before .before .if4 .taken) refl refl (omega arith) (c .before .before .before .number4 .ensures .0)) (c .before .mark-at .ensures)) ∙ by-code _ (seen (c .before .before .before .before .before .before .before .before .before .before .before .before .before .args .f)) 25 (c .before .before .before .before .if4 .taken)
+returns-4 c = ap (λ (v : Scalar). fine v) (c .float-with .ensures ∙ ap₂ withFloat (number-is _ _ (c .before .before .before .before .before .before .before .before .before .before .before .before .before .pre .0) 25 4 _ (c .before .before .before .before .if4 .taken) refl refl (omega arith) (c .before .before .before .number4 .ensures .0)) (c .before .mark-at .ensures)) ∙ by-code _ (seen (c .before .before .before .before .before .before .before .before .before .before .before .before .before .args .f)) 25 (c .before .before .before .before .if4 .taken)
 
 number-requires-5 : tie.Need-number-requires-5
 number-requires-5 c κs = search needs
@@ -79,7 +79,7 @@ double-with-requires c κs = search needs
 
 returns-5 : tie.Need-returns-5
 unfolding scalarOf countsOf widthOf
-returns-5 c = ap (λ (v : Scalar). fine v) (c .double-with .ensures ∙ ap₂ withDouble (told _ _ (c .before .before .before .before .before .before .before .before .before .before .before .before .before .before .before .pre .0) 26 8 _ (c .before .before .before .before .if5 .taken) refl refl (omega arith) (c .before .before .before .number5 .ensures .0)) (c .before .mark-at2 .ensures)) ∙ by-code _ (seen (c .before .before .before .before .before .before .before .before .before .before .before .before .before .before .before .args .f)) 26 (c .before .before .before .before .if5 .taken)
+returns-5 c = ap (λ (v : Scalar). fine v) (c .double-with .ensures ∙ ap₂ withDouble (number-is _ _ (c .before .before .before .before .before .before .before .before .before .before .before .before .before .before .before .pre .0) 26 8 _ (c .before .before .before .before .if5 .taken) refl refl (omega arith) (c .before .before .before .number5 .ensures .0)) (c .before .mark-at2 .ensures)) ∙ by-code _ (seen (c .before .before .before .before .before .before .before .before .before .before .before .before .before .before .before .args .f)) 26 (c .before .before .before .before .if5 .taken)
 
 returns-6 : tie.Need-returns-6
 returns-6 c = no-scalar _ _ (c .before .before .before .before .before .before .before .before .before .before .before .pre .1) (c .before .before .before .before .before .before .before .before .if1 .left) (c .before .before .before .before .before .before .if2 .left) (c .before .before .before .before .if3 .left) (c .before .before .if4 .left) (c .if5 .left)

@@ -13,7 +13,7 @@ use Rattle.kinds.specs.declared.Scalar.the-variants.{Byte, Short, Int, Long}
 use Rattle.signed.specs.Signed.{twos}
 use Rattle.kinds.specs.Kinds.{floatOf, doubleOf}
 use Rattle.scalars.specs.Scalars.{scalarOf}
-use Rattle.scalars.proofs.ScalarCases.{told, by-code}
+use Rattle.scalars.proofs.ScalarCases.{number-is, by-code}
 use Rattle.scalars.proofs.scalar_of.Statement.{statement}
 use Rattle.scalars.proofs.scalar_of.Tie as tie
 
@@ -28,7 +28,7 @@ i8-of-requires c κs = search needs
 
 returns : tie.Need-returns
 unfolding scalarOf countsOf widthOf
-returns c = let e : toZ w8 (ofZ w8 (c .i8-of .result)) ≡ c .i8-of .result = search needs in ap (λ (z : ℤ). fine (Byte z)) (e ∙ c .i8-of .ensures ∙ ap (twos 8) (told _ _ (c .before .before .before .before .before .pre) 0 1 _ (c .before .before .if1 .taken) refl refl (omega arith) (c .before .number .ensures .0))) ∙ by-code _ (seen (c .before .before .before .before .before .args .f)) 0 (c .before .before .if1 .taken)
+returns c = let e : toZ w8 (ofZ w8 (c .i8-of .result)) ≡ c .i8-of .result = search needs in ap (λ (z : ℤ). fine (Byte z)) (e ∙ c .i8-of .ensures ∙ ap (twos 8) (number-is _ _ (c .before .before .before .before .before .pre) 0 1 _ (c .before .before .if1 .taken) refl refl (omega arith) (c .before .number .ensures .0))) ∙ by-code _ (seen (c .before .before .before .before .before .args .f)) 0 (c .before .before .if1 .taken)
 
 number-requires-2 : tie.Need-number-requires-2
 number-requires-2 c κs = search needs
@@ -41,7 +41,7 @@ i16-of-requires c κs = search needs
 
 returns-2 : tie.Need-returns-2
 unfolding scalarOf countsOf widthOf
-returns-2 c = let e : toZ w16 (ofZ w16 (c .i16-of .result)) ≡ c .i16-of .result = search needs in ap (λ (z : ℤ). fine (Short z)) (e ∙ c .i16-of .ensures ∙ ap (twos 16) (told _ _ (c .before .before .before .before .before .before .before .pre) 1 2 _ (c .before .before .if2 .taken) refl refl (omega arith) (c .before .number2 .ensures .0))) ∙ by-code _ (seen (c .before .before .before .before .before .before .before .args .f)) 1 (c .before .before .if2 .taken)
+returns-2 c = let e : toZ w16 (ofZ w16 (c .i16-of .result)) ≡ c .i16-of .result = search needs in ap (λ (z : ℤ). fine (Short z)) (e ∙ c .i16-of .ensures ∙ ap (twos 16) (number-is _ _ (c .before .before .before .before .before .before .before .pre) 1 2 _ (c .before .before .if2 .taken) refl refl (omega arith) (c .before .number2 .ensures .0))) ∙ by-code _ (seen (c .before .before .before .before .before .before .before .args .f)) 1 (c .before .before .if2 .taken)
 
 number-requires-3 : tie.Need-number-requires-3
 number-requires-3 c κs = search needs
@@ -54,7 +54,7 @@ i32-of-requires c κs = search needs
 
 returns-3 : tie.Need-returns-3
 unfolding scalarOf countsOf widthOf
-returns-3 c = let e : toZ w32 (ofZ w32 (c .i32-of .result)) ≡ c .i32-of .result = search needs in ap (λ (z : ℤ). fine (Int z)) (e ∙ c .i32-of .ensures ∙ ap (twos 32) (told _ _ (c .before .before .before .before .before .before .before .before .before .pre) 2 4 _ (c .before .before .if3 .taken) refl refl (omega arith) (c .before .number3 .ensures .0))) ∙ by-code _ (seen (c .before .before .before .before .before .before .before .before .before .args .f)) 2 (c .before .before .if3 .taken)
+returns-3 c = let e : toZ w32 (ofZ w32 (c .i32-of .result)) ≡ c .i32-of .result = search needs in ap (λ (z : ℤ). fine (Int z)) (e ∙ c .i32-of .ensures ∙ ap (twos 32) (number-is _ _ (c .before .before .before .before .before .before .before .before .before .pre) 2 4 _ (c .before .before .if3 .taken) refl refl (omega arith) (c .before .number3 .ensures .0))) ∙ by-code _ (seen (c .before .before .before .before .before .before .before .before .before .args .f)) 2 (c .before .before .if3 .taken)
 
 number-requires-4 : tie.Need-number-requires-4
 number-requires-4 c κs = search needs
@@ -64,7 +64,7 @@ i64-of-requires c κs = search needs
 
 returns-4 : tie.Need-returns-4
 unfolding scalarOf countsOf widthOf
-returns-4 c = let e : toZ w64 (ofZ w64 (c .i64-of .result)) ≡ c .i64-of .result = search needs in ap (λ (z : ℤ). fine (Long z)) (e ∙ c .i64-of .ensures ∙ ap (twos 64) (told _ _ (c .before .before .before .before .before .before .before .before .before .before .before .pre) 3 8 _ (c .before .before .if4 .taken) refl refl (omega arith) (c .before .number4 .ensures .0))) ∙ by-code _ (seen (c .before .before .before .before .before .before .before .before .before .before .before .args .f)) 3 (c .before .before .if4 .taken)
+returns-4 c = let e : toZ w64 (ofZ w64 (c .i64-of .result)) ≡ c .i64-of .result = search needs in ap (λ (z : ℤ). fine (Long z)) (e ∙ c .i64-of .ensures ∙ ap (twos 64) (number-is _ _ (c .before .before .before .before .before .before .before .before .before .before .before .pre) 3 8 _ (c .before .before .if4 .taken) refl refl (omega arith) (c .before .number4 .ensures .0))) ∙ by-code _ (seen (c .before .before .before .before .before .before .before .before .before .before .before .args .f)) 3 (c .before .before .if4 .taken)
 
 number-requires-5 : tie.Need-number-requires-5
 number-requires-5 c κs = search needs
@@ -77,7 +77,7 @@ float-of-requires c κs = search needs
 
 returns-5 : tie.Need-returns-5
 unfolding scalarOf countsOf widthOf
-returns-5 c = ap (λ (v : Scalar). fine v) (c .float-of .ensures ∙ ap (floatOf) (told _ _ (c .before .before .before .before .before .before .before .before .before .before .before .before .before .pre) 4 4 _ (c .before .before .if5 .taken) refl refl (omega arith) (c .before .number5 .ensures .0))) ∙ by-code _ (seen (c .before .before .before .before .before .before .before .before .before .before .before .before .before .args .f)) 4 (c .before .before .if5 .taken)
+returns-5 c = ap (λ (v : Scalar). fine v) (c .float-of .ensures ∙ ap (floatOf) (number-is _ _ (c .before .before .before .before .before .before .before .before .before .before .before .before .before .pre) 4 4 _ (c .before .before .if5 .taken) refl refl (omega arith) (c .before .number5 .ensures .0))) ∙ by-code _ (seen (c .before .before .before .before .before .before .before .before .before .before .before .before .before .args .f)) 4 (c .before .before .if5 .taken)
 
 number-requires-6 : tie.Need-number-requires-6
 number-requires-6 c κs = search needs
@@ -87,7 +87,7 @@ double-of-requires c κs = search needs
 
 returns-6 : tie.Need-returns-6
 unfolding scalarOf countsOf widthOf
-returns-6 c = ap (λ (v : Scalar). fine v) (c .double-of .ensures ∙ ap (doubleOf) (told _ _ (c .before .before .before .before .before .before .before .before .before .before .before .before .before .before .before .pre) 5 8 _ (c .before .before .if6 .taken) refl refl (omega arith) (c .before .number6 .ensures .0))) ∙ by-code _ (seen (c .before .before .before .before .before .before .before .before .before .before .before .before .before .before .before .args .f)) 5 (c .before .before .if6 .taken)
+returns-6 c = ap (λ (v : Scalar). fine v) (c .double-of .ensures ∙ ap (doubleOf) (number-is _ _ (c .before .before .before .before .before .before .before .before .before .before .before .before .before .before .before .pre) 5 8 _ (c .before .before .if6 .taken) refl refl (omega arith) (c .before .number6 .ensures .0))) ∙ by-code _ (seen (c .before .before .before .before .before .before .before .before .before .before .before .before .before .before .before .args .f)) 5 (c .before .before .if6 .taken)
 
 further-requires : tie.Need-further-requires
 further-requires c κs = (c .before .before .before .before .before .before .before .before .before .before .before .before .before .pre, omega arith)

@@ -1,4 +1,5 @@
--- Where the top bit of the 8 is set, the number is one less than the negated complement of its bits, and no step of that leaves its width.
+-- Where the top bit of the 8 is set, the number is one less than the negated complement of its bits, and no step of
+-- that leaves its width.
 use borrow.Author.Needs.{needs}
 use Prim.Native.Nat.{_-_}
 use mathlib.Core.Path.{sym, ap, _∙_}

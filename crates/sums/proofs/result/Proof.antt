@@ -1,6 +1,6 @@
 -- Each case is told with its own unit type.
 use borrow.Author.Needs.{needs}
-use Rattle.sums.specs.Views.{told, resulting}
+use Rattle.sums.specs.Views.{shownAs, resulting}
 use Rattle.sums.proofs.result.Statement.{statement}
 use Rattle.sums.proofs.result.Tie as tie
 
@@ -59,35 +59,35 @@ refuse-requires : tie.Need-refuse-requires
 refuse-requires c κs = search needs
 
 returns : tie.Need-returns
-unfolding told resulting
+unfolding shownAs resulting
 returns c = rw (c .before .before .q .given .1) (c .told .ensures)
 
 returns-2 : tie.Need-returns-2
-unfolding told resulting
+unfolding shownAs resulting
 returns-2 c = rw (c .before .before .q2 .given .1) (c .told2 .ensures)
 
 returns-3 : tie.Need-returns-3
-unfolding told resulting
+unfolding shownAs resulting
 returns-3 c = rw (c .before .before .q3 .given .1) (c .told3 .ensures)
 
 returns-4 : tie.Need-returns-4
-unfolding told resulting
+unfolding shownAs resulting
 returns-4 c = rw (c .before .before .q4 .given .1) (c .told4 .ensures)
 
 returns-5 : tie.Need-returns-5
-unfolding told resulting
+unfolding shownAs resulting
 returns-5 c = rw (c .before .before .q5 .given .1) (c .told5 .ensures)
 
 returns-6 : tie.Need-returns-6
-unfolding told resulting
+unfolding shownAs resulting
 returns-6 c = rw (c .before .before .q6 .given .1) (c .told6 .ensures)
 
 returns-7 : tie.Need-returns-7
-unfolding told resulting
+unfolding shownAs resulting
 returns-7 c = rw (c .before .before .q7 .given .1) (c .told7 .ensures)
 
 returns-8 : tie.Need-returns-8
-unfolding told resulting
+unfolding shownAs resulting
 returns-8 c = rw (c .before .before .q8 .given .1) (c .told8 .ensures)
 
 returns-9 : tie.Need-returns-9

@@ -1,4 +1,5 @@
--- The codes of each width are those whose bit is set, since a test computed over all codes passes; what is left has two bytes.
+-- The codes of each width are those whose bit is set, since a test computed over all codes passes; what is left has two
+-- bytes.
 use mathlib.Core.Path.{refl, sym, _∙_}
 use native.Mathlib.Omega.{arith}
 use borrow.Author.Needs.{needs}

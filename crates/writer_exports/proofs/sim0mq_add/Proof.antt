@@ -1,4 +1,5 @@
--- Where there is room, the numbers are those of what `add` answers to the state that its numbers tell, and `out` is as it leaves it.
+-- Where there is room, the numbers are those of what `add` answers to the state that its numbers tell, and `out` is as
+-- it leaves it.
 use borrow.Author.Needs.{needs}
 use mathlib.Core.Path.{refl, _∙_}
 use Rattle.writing.specs.Writing.{encoded}

@@ -1,4 +1,5 @@
--- Where there is room, the numbers are those of what `add_scalar` answers to the state and the scalar that their numbers tell, and `out` is as it leaves it.
+-- Where there is room, the numbers are those of what `add_scalar` answers to the state and the scalar that their
+-- numbers tell, and `out` is as it leaves it.
 use borrow.Author.Needs.{needs}
 use mathlib.Core.Path.{ap, _∙_}
 use Rattle.writing.specs.Writing.{scalar}

@@ -1,4 +1,5 @@
--- The state takes a field, so what is written lies within the limit and the buffer; each return is a case of what still fits.
+-- The state takes a field, so what is written lies within the limit and the buffer; each return is a case of what still
+-- fits.
 use borrow.Author.Needs.{needs}
 use native.Mathlib.Omega.{arith}
 use Prim.Native.Nat.{_+_, _≤_}

@@ -1,4 +1,5 @@
--- calls::answers::keep is safe and ends: each turn goes on by a byte, and a store keeps the length of what it is kept in.
+-- calls::answers::keep is safe and ends: each turn goes on by a byte, and a store keeps the length of what it is kept
+-- in.
 use Prim.Native.Nat.{_-_}
 use mathlib.Core.Path.{_≡_}
 use lib.ListN.{length}
