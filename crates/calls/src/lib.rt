@@ -9,11 +9,14 @@ use lines::spaced;
 use lines::starts;
 use lines::wholes::long_of;
 use lines::wholes::signed;
+use lines::within;
 use pieces::put;
 use scalar_lines::Told;
 use scalar_lines::scalar;
 use writing::CountType;
 use writing::Writer;
+ghost use Prim.Native.Nat.{_≤_};
+ghost use lib.ListN.{length};
 
 mod answers;
 
@@ -34,14 +37,17 @@ struct Opening {
 }
 
 // The length of what the calls of these lines answer, put at the front of `out`: each opens with these ids, and the
-// output has `room` bytes.
-pub fn answer(text: &[u8], ids: &[u8], room: usize, out: &mut [u8]) -> usize {
+// output has `room` bytes. 0 where it does not fit, or no output has so many bytes.
+pub fn answer(text: &[u8], ids: &[u8], room: usize, out: &mut [u8]) -> usize
+    ensures { λ r. ⌜ r ≤ length (now (out .exit)) ⌝ }
+{
     let mut output = [BEFORE; ROOM];
     let mut kept = [BEFORE; ROOM];
     if ROOM < room {
         return 0;
     }
-    all(text, ids, &mut output[0..room], &mut kept, out)
+    let end = all(text, ids, &mut output[0..room], &mut kept, out);
+    within(end, out)
 }
 
 // The length of what the calls of these lines answer, in this output, which holds what `kept` does.

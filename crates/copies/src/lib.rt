@@ -3,24 +3,30 @@
 // the first past the copy that is not as it was before.
 use lines::ROOM;
 use lines::part;
+use lines::within;
 use pieces::number;
 use pieces::put;
 use reading::Reading;
 use sim0mq::Judged;
 use sim0mq::Refusal;
+ghost use mathlib.Core.Path.{_≡_};
 ghost use Prim.Native.Nat.{_≤_, max};
 ghost use lib.ListN.{length};
 
 // Each byte of an output before anything is put into it.
 pub const BEFORE: u8 = 0xAA;
 
-// The length of what blanking `message` into an output of `room` bytes answers, put at the front of `out`.
-pub fn answer(message: &[u8], room: usize, out: &mut [u8]) -> usize {
+// The length of what blanking `message` into an output of `room` bytes answers, put at the front of `out`; 0 where it
+// does not fit, or no output has so many bytes.
+pub fn answer(message: &[u8], room: usize, out: &mut [u8]) -> usize
+    ensures { λ r. ⌜ r ≤ length (now (out .exit)) ⌝ }
+{
     let mut output = [BEFORE; ROOM];
     if ROOM < room {
         return 0;
     }
-    blanked(message, &mut output[0..room], out)
+    let end = blanked(message, &mut output[0..room], out);
+    within(end, out)
 }
 
 // The length of what blanking `message` into this output answers.
@@ -133,7 +139,9 @@ fn own(message: &[u8], b: u8, i: usize) -> bool {
 
 // The place of the first byte of the output, from `from` on, that is not as it was before; a place past the output
 // where there is none.
-pub fn touched(output: &[u8], from: usize) -> usize {
+pub fn touched(output: &[u8], from: usize) -> usize
+    ensures { λ r. ⌜ (from ≤ r) × (r ≤ max from (length (now (output .entry)))) ⌝ }
+{
     let mut at = from;
     while at < output.len() {
         if output[at] != BEFORE {
@@ -145,7 +153,10 @@ pub fn touched(output: &[u8], from: usize) -> usize {
 }
 
 // The place after the line of a fault, put from `from` on where its place is before `end`: its word and its place.
-pub fn fault(word: &[u8], place: usize, end: usize, out: &mut [u8], from: usize) -> usize {
+pub fn fault(word: &[u8], place: usize, end: usize, out: &mut [u8], from: usize) -> usize
+    ensures { λ r. ⌜ (end ≤ place → r ≡ from) ⌝ }
+    ensures { λ _. ⌜ (end ≤ place → now (out .exit) ≡ now (out .entry)) ⌝ }
+{
     if end <= place {
         return from;
     }

@@ -1,5 +1,7 @@
 // The words and the numbers of a line of a case file.
-ghost use Prim.Native.Nat.{_≤_, max};
+ghost use mathlib.Core.Path.{_≡_};
+ghost use mathlib.Core.Bool.{true};
+ghost use Prim.Native.Nat.{_-_, _≤_, _<_, max};
 ghost use lib.ListN.{length};
 
 pub mod wholes;
@@ -16,8 +18,17 @@ pub struct Figure {
     pub at: usize,
 }
 
+// How many bytes of `buffer` stand before `end`: none where `end` is past it.
+pub fn within(end: usize, buffer: &[u8]) -> usize
+    ensures { λ r. ⌜ (r ≤ length (now (buffer .entry))) × (r ≤ end) ⌝ }
+{
+    if end <= buffer.len() { end } else { 0 }
+}
+
 // The bytes of `text` from `from` up to `to`; none where `text` has no such part.
-pub fn part(text: &[u8], from: usize, to: usize) -> &[u8] {
+pub fn part(text: &[u8], from: usize, to: usize) -> &[u8]
+    ensures { λ r. ⌜ (length (now r) ≤ to - from) × (length (now r) ≤ length (now (text .entry)) - from) ⌝ }
+{
     if to <= text.len() {
         if from <= to {
             return &text[from..to];
@@ -27,7 +38,9 @@ pub fn part(text: &[u8], from: usize, to: usize) -> &[u8] {
 }
 
 // Whether `line` begins with `word`.
-pub fn starts(line: &[u8], word: &[u8]) -> bool {
+pub fn starts(line: &[u8], word: &[u8]) -> bool
+    ensures { λ r. ⌜ (r ≡ true → length (now (word .entry)) ≤ length (now (line .entry))) ⌝ }
+{
     check::same(part(line, 0, word.len()), word)
 }
 
@@ -46,7 +59,10 @@ pub fn find(line: &[u8], from: usize, b: u8) -> usize
 }
 
 // The number that stands in `line` at `from`, in decimal or, after 0x, in hexadecimal.
-pub fn number(line: &[u8], from: usize) -> Figure {
+pub fn number(line: &[u8], from: usize) -> Figure
+    ensures { λ r. ⌜ (from ≤ r .at) × (r .at ≤ max from (length (now (line .entry)))) ⌝ }
+    ensures { λ r. ⌜ (length (now (line .entry)) ≤ from → r .value ≡ 18446744073709551615) ⌝ }
+{
     if line.len() <= from {
         return Figure {
             value: NONE,
@@ -60,13 +76,17 @@ pub fn number(line: &[u8], from: usize) -> Figure {
 }
 
 // The number that stands in `line` from `from` to its end.
-pub fn last(line: &[u8], from: usize) -> usize {
+pub fn last(line: &[u8], from: usize) -> usize
+    ensures { λ r. ⌜ (length (now (line .entry)) ≤ from → r ≡ 18446744073709551615) ⌝ }
+{
     let n = number(line, from);
     if n.at == line.len() { n.value } else { NONE }
 }
 
 // The number that stands in `line` after a space at `at`.
-pub fn spaced(line: &[u8], at: usize) -> Figure {
+pub fn spaced(line: &[u8], at: usize) -> Figure
+    ensures { λ r. ⌜ (at ≤ r .at) × (r .at ≤ max at (length (now (line .entry)))) ⌝ }
+{
     if line.len() <= at {
         return Figure { value: NONE, at };
     }
@@ -77,7 +97,9 @@ pub fn spaced(line: &[u8], at: usize) -> Figure {
 }
 
 // The number whose digits stand in `line` at `from`.
-fn digits(line: &[u8], from: usize, hexadecimal: bool) -> Figure {
+fn digits(line: &[u8], from: usize, hexadecimal: bool) -> Figure
+    ensures { λ r. ⌜ (from ≤ r .at) × (r .at ≤ max from (length (now (line .entry)))) ⌝ }
+{
     let mut value = 0;
     let mut at = from;
     while at < line.len() {

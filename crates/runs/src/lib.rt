@@ -6,6 +6,10 @@ use lines::find;
 use lines::last;
 use lines::part;
 use lines::starts;
+ghost use mathlib.Core.Path.{_≡_};
+ghost use mathlib.Core.Bool.{false};
+ghost use Prim.Native.Nat.{_+_, _≤_, min};
+ghost use lib.ListN.{length};
 
 // How many numbers a table has at most, and has where a case does not say.
 const NUMBERS: usize = 1536;
@@ -39,7 +43,9 @@ pub struct Run {
 }
 
 // Nothing run yet.
-pub fn start() -> Run {
+pub fn start() -> Run
+    ensures { λ r. ⌜ (r .cases ≡ 0) × (r .wrong ≡ 0) × (r .begun ≡ false) ⌝ }
+{
     Run {
         line: 0,
         from: 0,
@@ -62,12 +68,16 @@ pub fn start() -> Run {
 }
 
 // One more than n; the largest number stays as it is.
-pub fn next(n: usize) -> usize {
+pub fn next(n: usize) -> usize
+    ensures { λ r. ⌜ r ≡ min (n + 1) 18446744073709551615 ⌝ }
+{
     if n < usize::MAX { n + 1 } else { n }
 }
 
 // The run after a line that is not understood, which it says.
-fn lost(run: Run) -> Run {
+fn lost(run: Run) -> Run
+    ensures { λ r. ⌜ (r .cases ≡ run .cases) × (run .wrong ≤ r .wrong) ⌝ }
+{
     io::write_all(STDOUT_FILENO, b"line ");
     io::print_decimal(STDOUT_FILENO, run.line as u64);
     io::write_all(STDOUT_FILENO, b": not understood\n");
@@ -77,7 +87,9 @@ fn lost(run: Run) -> Run {
 }
 
 // The run after its line, where that does not end a case: a comment, the beginning of a case, or a line of one.
-pub fn turn(line: &[u8], run: Run, message: &mut [u8], expected: &mut [u8]) -> Run {
+pub fn turn(line: &[u8], run: Run, message: &mut [u8], expected: &mut [u8]) -> Run
+    ensures { λ r. ⌜ (r .cases ≡ run .cases) × (run .wrong ≤ r .wrong) ⌝ }
+{
     if comment(line) {
         return run;
     }
@@ -91,7 +103,9 @@ pub fn turn(line: &[u8], run: Run, message: &mut [u8], expected: &mut [u8]) -> R
 }
 
 // The run after a line of a case, by the line's first word.
-fn deed(line: &[u8], run: Run, message: &mut [u8], expected: &mut [u8]) -> Run {
+fn deed(line: &[u8], run: Run, message: &mut [u8], expected: &mut [u8]) -> Run
+    ensures { λ r. ⌜ (r .cases ≡ run .cases) × (run .wrong ≤ r .wrong) ⌝ }
+{
     if starts(line, b"bytes ") {
         return bytes(line, run, message);
     }
@@ -121,7 +135,9 @@ fn deed(line: &[u8], run: Run, message: &mut [u8], expected: &mut [u8]) -> Run {
 
 // The run after a line of a case that writes, which is run when the case ends: a call of the writer, or what is said of
 // its state or output.
-fn writing(line: &[u8], run: Run) -> Run {
+fn writing(line: &[u8], run: Run) -> Run
+    ensures { λ r. ⌜ (r .cases ≡ run .cases) × (run .wrong ≤ r .wrong) ⌝ }
+{
     if starts(line, b"room ") {
         return room(line, run);
     }
@@ -160,7 +176,9 @@ fn comment(line: &[u8]) -> bool {
 }
 
 // `case NAME`: a case begins, with no bytes and the whole table. The case before it, if it has no end, is wrong.
-fn case(run: Run) -> Run {
+fn case(run: Run) -> Run
+    ensures { λ r. ⌜ (r .cases ≡ run .cases) × (run .wrong ≤ r .wrong) ⌝ }
+{
     let mut after = run;
     if run.begun {
         after = lost(run);
@@ -180,7 +198,9 @@ fn case(run: Run) -> Run {
 }
 
 // `bytes TOKENS`: bytes are added to the message.
-fn bytes(line: &[u8], run: Run, message: &mut [u8]) -> Run {
+fn bytes(line: &[u8], run: Run, message: &mut [u8]) -> Run
+    ensures { λ r. ⌜ (r .cases ≡ run .cases) × (run .wrong ≤ r .wrong) ⌝ }
+{
     let length = tokens::added(line, 6, message, run.length);
     if message.len() < length {
         return lost(run);
@@ -191,7 +211,9 @@ fn bytes(line: &[u8], run: Run, message: &mut [u8]) -> Run {
 }
 
 // `set I B`: byte I of the message is B.
-fn set(line: &[u8], run: Run, message: &mut [u8]) -> Run {
+fn set(line: &[u8], run: Run, message: &mut [u8]) -> Run
+    ensures { λ r. ⌜ (r .cases ≡ run .cases) × (run .wrong ≤ r .wrong) ⌝ }
+{
     let space = find(line, 4, b' ');
     let i = last(part(line, 0, space), 4);
     let b = last(line, space + 1);
@@ -207,7 +229,9 @@ fn set(line: &[u8], run: Run, message: &mut [u8]) -> Run {
 }
 
 // `cut N`: the message's first N bytes are kept.
-fn cut(line: &[u8], run: Run) -> Run {
+fn cut(line: &[u8], run: Run) -> Run
+    ensures { λ r. ⌜ (r .cases ≡ run .cases) × (run .wrong ≤ r .wrong) ⌝ }
+{
     let n = last(line, 4);
     if run.length < n {
         return lost(run);
@@ -218,7 +242,9 @@ fn cut(line: &[u8], run: Run) -> Run {
 }
 
 // `table N`: a table of N numbers is lent.
-fn table(line: &[u8], run: Run) -> Run {
+fn table(line: &[u8], run: Run) -> Run
+    ensures { λ r. ⌜ (r .cases ≡ run .cases) × (run .wrong ≤ r .wrong) ⌝ }
+{
     let n = last(line, 6);
     if NUMBERS < n {
         return lost(run);
@@ -229,14 +255,18 @@ fn table(line: &[u8], run: Run) -> Run {
 }
 
 // `no table`: no table is lent.
-fn no_table(run: Run) -> Run {
+fn no_table(run: Run) -> Run
+    ensures { λ r. ⌜ (r .cases ≡ run .cases) × (run .wrong ≤ r .wrong) ⌝ }
+{
     let mut after = run;
     after.lends = false;
     after
 }
 
 // `asks K`: field K is asked for.
-fn asks(line: &[u8], run: Run) -> Run {
+fn asks(line: &[u8], run: Run) -> Run
+    ensures { λ r. ⌜ (r .cases ≡ run .cases) × (run .wrong ≤ r .wrong) ⌝ }
+{
     let mut after = run;
     after.asks = true;
     after.field = last(line, 5);
@@ -244,7 +274,9 @@ fn asks(line: &[u8], run: Run) -> Run {
 }
 
 // `blanks N`: the message is blanked into an output of N bytes.
-fn blanks(line: &[u8], run: Run) -> Run {
+fn blanks(line: &[u8], run: Run) -> Run
+    ensures { λ r. ⌜ (r .cases ≡ run .cases) × (run .wrong ≤ r .wrong) ⌝ }
+{
     let n = last(line, 7);
     if ROOM < n {
         return lost(run);
@@ -256,7 +288,9 @@ fn blanks(line: &[u8], run: Run) -> Run {
 }
 
 // `room N`: the output that a message is written in has N bytes.
-fn room(line: &[u8], run: Run) -> Run {
+fn room(line: &[u8], run: Run) -> Run
+    ensures { λ r. ⌜ (r .cases ≡ run .cases) × (run .wrong ≤ r .wrong) ⌝ }
+{
     let n = last(line, 5);
     if ROOM < n {
         return lost(run);
@@ -267,7 +301,9 @@ fn room(line: &[u8], run: Run) -> Run {
 }
 
 // `gives TEXT`: one more line of the text that is expected.
-fn gives(line: &[u8], run: Run, expected: &mut [u8]) -> Run {
+fn gives(line: &[u8], run: Run, expected: &mut [u8]) -> Run
+    ensures { λ r. ⌜ (r .cases ≡ run .cases) × (run .wrong ≤ r .wrong) ⌝ }
+{
     let mut at = pieces::put(part(line, 6, line.len()), expected, run.expects);
     at = pieces::put(b"\n", expected, at);
     if expected.len() < at {
@@ -280,7 +316,9 @@ fn gives(line: &[u8], run: Run, expected: &mut [u8]) -> Run {
 
 // The length of the listing of `message`, put at the front of `out`: its first line alone where the case lends no
 // table.
-pub fn listed(run: Run, message: &[u8], out: &mut [u8]) -> usize {
+pub fn listed(run: Run, message: &[u8], out: &mut [u8]) -> usize
+    ensures { λ r. ⌜ r ≤ length (now (out .exit)) ⌝ }
+{
     if !run.lends {
         let judged = reading::judge(message);
         let said = judged.said;
@@ -295,7 +333,9 @@ pub fn listed(run: Run, message: &[u8], out: &mut [u8]) -> usize {
 }
 
 // The length of the listing of `message`, read with this table.
-fn tabled(message: &[u8], table: &mut [u32], out: &mut [u8]) -> usize {
+fn tabled(message: &[u8], table: &mut [u32], out: &mut [u8]) -> usize
+    ensures { λ r. ⌜ r ≤ length (now (out .exit)) ⌝ }
+{
     let read = reading::read(message, table);
     let said = read.said;
     listing::listing(said, table, out)
@@ -303,7 +343,13 @@ fn tabled(message: &[u8], table: &mut [u32], out: &mut [u8]) -> usize {
 
 // The run after the end of a case that was answered with `given`. Where that is empty, or not the text that the case
 // expects, the case is wrong, and its name and the answer are printed.
-pub fn ended(text: &[u8], run: Run, given: &[u8], expected: &[u8]) -> Run {
+pub fn ended(text: &[u8], run: Run, given: &[u8], expected: &[u8]) -> Run
+    ensures { λ r. ⌜
+        (r .begun ≡ false)
+        × (r .cases ≡ min (run .cases + 1) 18446744073709551615)
+        × (run .wrong ≤ r .wrong)
+        ⌝ }
+{
     let mut after = run;
     after.begun = false;
     after.cases = next(run.cases);
@@ -321,14 +367,24 @@ pub fn ended(text: &[u8], run: Run, given: &[u8], expected: &[u8]) -> Run {
     after
 }
 
-// Prints how many cases there are, and how many wrong ones: a case that has no end is wrong too.
-pub fn report(run: Run) {
-    let mut after = run;
-    if run.begun {
-        after = lost(run);
-    }
+// Prints how many cases there are, and how many wrong ones, which it answers: a case that has no end is wrong too.
+pub fn report(run: Run) -> usize
+    ensures { λ r. ⌜ run .wrong ≤ r ⌝ }
+{
+    let after = closed(run);
     io::print_decimal(STDOUT_FILENO, after.cases as u64);
     io::write_all(STDOUT_FILENO, b" cases, ");
     io::print_decimal(STDOUT_FILENO, after.wrong as u64);
     io::write_all(STDOUT_FILENO, b" wrong\n");
+    after.wrong
+}
+
+// The run after its last line: a case that has no end is wrong.
+fn closed(run: Run) -> Run
+    ensures { λ r. ⌜ (r .cases ≡ run .cases) × (run .wrong ≤ r .wrong) ⌝ }
+{
+    if run.begun {
+        return lost(run);
+    }
+    run
 }

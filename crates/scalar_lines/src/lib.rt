@@ -13,6 +13,10 @@ use lines::wholes::int_of;
 use lines::wholes::long_of;
 use lines::wholes::short_of;
 use lines::wholes::signed;
+ghost use mathlib.Core.Path.{_≡_};
+ghost use Prim.Native.Nat.{_<_};
+ghost use lib.ListN.{length};
+ghost use Rattle.scalar_lines.specs.declared.Told.the-variants.{Lost};
 
 // A scalar, or that the line is not understood.
 pub enum Told {
@@ -36,8 +40,18 @@ const UNKNOWN: Marked = Marked {
     },
 };
 
-// The scalar that `text` tells.
-pub fn scalar(text: &[u8]) -> Told {
+// The scalar that `text` tells; the shortest text that tells one has five bytes.
+pub fn scalar(text: &[u8]) -> Told
+    ensures { λ r. ⌜ (length (now (text .entry)) < 5 → r ≡ Lost) ⌝ }
+{
+    if text.len() < 5 {
+        return Told::Lost;
+    }
+    by_word(text)
+}
+
+// The scalar that `text` tells, by its first word.
+fn by_word(text: &[u8]) -> Told {
     if starts(text, b"byte ") {
         return integer(text, 5, 127);
     }

@@ -8,6 +8,7 @@ use kinds::Scalar;
 use lines::ROOM;
 use lines::part;
 use lines::wholes::long_of;
+use lines::within;
 use numbers::number;
 use pieces::put;
 use reading::Reading;
@@ -15,13 +16,23 @@ use scalars::answer::Value;
 use sim0mq::Judged;
 use writing::CountType;
 use writing::Writer;
+ghost use Prim.Native.Nat.{_≤_};
+ghost use lib.ListN.{length};
 
 // How many bytes an output has past the message.
 const PAST: usize = 64;
 
 // The place after a line for each way of adding fields, encoded and by scalars, in which an accepted message is not
-// given back, put from `from` on. A message that is refused has no line.
-pub fn answer(message: &[u8], out: &mut [u8], from: usize) -> usize {
+// given back, put from `from` on. A message that is refused has no line; 0 where the lines do not fit.
+pub fn answer(message: &[u8], out: &mut [u8], from: usize) -> usize
+    ensures { λ r. ⌜ r ≤ length (now (out .exit)) ⌝ }
+{
+    let end = lines_of(message, out, from);
+    within(end, out)
+}
+
+// The place after these lines.
+fn lines_of(message: &[u8], out: &mut [u8], from: usize) -> usize {
     let judged = reading::judge(message);
     let said = judged.said;
     match said {

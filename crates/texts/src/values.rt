@@ -2,16 +2,22 @@
 // field's view.
 use kinds::Mark;
 use kinds::Scalar;
+use lines::within;
 use numbers::wide;
 use pieces::number;
 use pieces::put;
 use reading::Reading;
 use scalars::answer::Value;
+ghost use Prim.Native.Nat.{_≤_};
+ghost use lib.ListN.{length};
 
-// The length of what asking `message` for field k answers, put at the front of `out`.
-pub fn answer(message: &[u8], k: usize, out: &mut [u8]) -> usize {
+// The length of what asking `message` for field k answers, put at the front of `out`; 0 where it does not fit.
+pub fn answer(message: &[u8], k: usize, out: &mut [u8]) -> usize
+    ensures { λ r. ⌜ r ≤ length (now (out .exit)) ⌝ }
+{
     let at = value(scalars::value(message, k), out);
-    view(asking::view(message, k), out, at)
+    let end = view(asking::view(message, k), out, at);
+    within(end, out)
 }
 
 // The place after the line of a value, or of a refusal.

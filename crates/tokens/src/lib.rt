@@ -3,6 +3,8 @@ use lines::find;
 use lines::number;
 use lines::part;
 use pieces::put;
+ghost use Prim.Native.Nat.{_+_, _≤_};
+ghost use lib.ListN.{length};
 
 // Where a token of a line ends, and the message's length after it: past the message's room where the token is not
 // understood or does not fit.
@@ -13,7 +15,9 @@ struct Step {
 
 // The message's length after the bytes that `line` gives from `from` on; past the message's room where one is not
 // understood or does not fit.
-pub fn added(line: &[u8], from: usize, message: &mut [u8], before: usize) -> usize {
+pub fn added(line: &[u8], from: usize, message: &mut [u8], before: usize) -> usize
+    ensures { λ r. ⌜ r ≤ length (now (message .exit)) + 1 ⌝ }
+{
     let mut at = from;
     let mut length = before;
     while at < line.len() {
@@ -23,6 +27,9 @@ pub fn added(line: &[u8], from: usize, message: &mut [u8], before: usize) -> usi
         }
         at = step.at;
         length = step.length;
+    }
+    if message.len() < length {
+        return message.len() + 1;
     }
     length
 }

@@ -1,13 +1,13 @@
--- texts::copies::touched is safe and ends: each turn goes on by a byte. Nothing has to hold from turn to turn.
+-- copies::touched meets its contract and ends. The invariant is what it ensures of the place it is at.
 -- Assumes nothing.
-use Prim.Native.Nat.{_-_}
+use Prim.Native.Nat.{_-_, _≤_, max}
 use lib.ListN.{length}
 use borrow.Author.Needs.{needs}
 use Rattle.copies.proofs.touched.Statement.{statement}
 use Rattle.copies.proofs.touched.Tie as tie
 
 abbrev Inv-loop : tie.InvT-loop
-Inv-loop output from at₀ at = Unit {0}
+Inv-loop output from at₀ at = (from ≤ at) × (at ≤ max from (length output))
 
 abbrev μ-loop : tie.MeasureT-loop
 μ-loop output from at₀ at = length output - at

@@ -1,13 +1,13 @@
--- lines::digits is safe and ends. Nothing has to hold from turn to turn.
+-- lines::digits meets its contract and ends. The invariant is what it ensures of the place it is at.
 -- Assumes nothing.
-use Prim.Native.Nat.{_-_}
+use Prim.Native.Nat.{_-_, _≤_, max}
 use lib.ListN.{length}
 use borrow.Author.Needs.{needs}
 use Rattle.lines.proofs.digits.Statement.{statement}
 use Rattle.lines.proofs.digits.Tie as tie
 
 abbrev Inv-loop : tie.InvT-loop
-Inv-loop line from hexadecimal value₀ at₀ value at = Unit {0}
+Inv-loop line from hexadecimal value₀ at₀ value at = (from ≤ at) × (at ≤ max from (length line))
 
 abbrev μ-loop : tie.MeasureT-loop
 μ-loop line from hexadecimal value₀ at₀ value at = length line - at

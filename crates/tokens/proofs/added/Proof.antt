@@ -1,5 +1,5 @@
--- tokens::added is safe and ends: a token that does not end past its first byte ends the loop.
--- Assumes nothing.
+-- tokens::added meets its contract and ends: a token that does not end past its first byte ends the loop, and a length
+-- past the message is one past it. Assumes nothing.
 use Prim.Native.Nat.{_-_}
 use mathlib.Core.Path.{_≡_}
 use lib.ListN.{length}
@@ -34,11 +34,20 @@ loop-less c = search needs
 loop-again : tie.Need-loop-again Inv-loop μ-loop
 loop-again c = search needs
 
+add-result-2 : tie.Need-add-result-2 Inv-loop μ-loop
+add-result-2 c = search needs
+
 same-length-2 : tie.Need-same-length-2 Inv-loop μ-loop
 same-length-2 c = search needs
 
 returns-2 : tie.Need-returns-2 Inv-loop μ-loop
 returns-2 c = search needs
+
+same-length-3 : tie.Need-same-length-3 Inv-loop μ-loop
+same-length-3 c = search needs
+
+returns-3 : tie.Need-returns-3 Inv-loop μ-loop
+returns-3 c = search needs
 
 pub added-spec : {M : Type 1} → statement M
 added-spec =
@@ -53,5 +62,8 @@ added-spec =
     returns
     loop-less
     loop-again
+    add-result-2
     same-length-2
-    returns-2)
+    returns-2
+    same-length-3
+    returns-3)
