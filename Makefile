@@ -1,16 +1,19 @@
-# make: prove the crates, build the programs and list a sample message. make test: the gate, from nothing, with the
-# must-fail edits and the bindings' tests. make calls: every public call with its contract and with what is determined:
-# its result, and each buffer. make example: the C example, built for this machine and run. make compare: a million
-# cases of the library against the independent reader in compare/. make bench: how fast both are, side by side.
-# make versus BEFORE=FILE: how fast the library is beside an earlier one, FILE being the libsim0mq.a of another
-# checkout.
-.PHONY: all test calls bindings example compare bench versus
+# make: prove what `list` stands on and list a sample message. make check: prove all the rest, and run every program.
+# make test: the gate, from nothing, with the must-fail edits and the bindings' tests. make calls: every public call
+# with its contract and with what is determined: its result, and each buffer. make example: the C example, built for
+# this machine and run. make compare: a million cases of the library against the independent reader in compare/. make
+# bench: how fast both are, side by side. make versus BEFORE=FILE: how fast the library is beside an earlier one, FILE
+# being the libsim0mq.a of another checkout.
+.PHONY: all check test calls bindings example compare bench versus
 
 PEER = cd compare && SIM0MQ_LIB_DIR=$(CURDIR)/target/native CARGO_TARGET_DIR=$(CURDIR)/target/native/compare cargo run --release --offline --quiet --features product
 
 all:
-	@rt check
+	@tools/prove list
 	@tools/run list < crates/list/stdin
+
+check:
+	@tools/prove
 
 test:
 	@.ci/run
