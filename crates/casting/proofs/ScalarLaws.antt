@@ -7,7 +7,7 @@ use mir.Val.{boolByte}
 use lib.IntN.{ℤ}
 use lib.Ieee.{Format, Float, nan, ne, toBits}
 use lib.Ieee.Compare.{differs-from-itself}
-use Rattle.scalars.specs.Bytes.{bitsOf}
+use Rattle.signed.specs.Signed.{bitsOf}
 use Rattle.kinds.specs.declared.Mark.{Mark}
 use Rattle.puts.specs.Signed.{bitsUpTo}
 use Rattle.puts.proofs.SignedLaws.{bits-of}

@@ -6,8 +6,7 @@ use lib.Dec.{leb, eqb}
 use lib.Ieee.{binary32, binary64, toBits}
 use lib.ListN.{replicate}
 use Rattle.sim0mq.specs.Answer.{Answer, fine, refused}
-use Rattle.scalars.specs.Bytes.{bitsOf}
-use Rattle.signed.specs.Signed.{twos}
+use Rattle.signed.specs.Signed.{twos, bitsOf}
 use Rattle.kinds.specs.Kinds.{floatOf, doubleOf, withFloat, withDouble}
 use Rattle.kinds.specs.declared.Mark.{Mark}
 use Rattle.kinds.specs.declared.Scalar.{Scalar}

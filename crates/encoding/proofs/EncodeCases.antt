@@ -16,7 +16,9 @@ use mir.Val.{Fits, boolByte}
 use Rattle.sim0mq.specs.Answer.{fine, refused}
 use Rattle.sim0mq.specs.Mark.{perRow, Kind, plain, money, moneyPer, unknown, kindOf, currencyTaken, displayTaken}
 use Rattle.marks.proofs.MarkCases.{kind-plain, kind-between, kind-money, kind-per, kind-above}
-use Rattle.scalars.specs.Bytes.{bigBytes, bitsOf, scalarBytes, bytesOfMark, markBytes}
+use Rattle.numbers.specs.Bytes.{bigBytes}
+use Rattle.signed.specs.Signed.{bitsOf}
+use Rattle.scalars.specs.Bytes.{scalarBytes, bytesOfMark, markBytes}
 use Rattle.kinds.specs.declared.Mark.{Mark}
 use Rattle.kinds.specs.declared.Scalar.{Scalar}
 use Rattle.kinds.specs.declared.Scalar.the-variants.{Boolean}

@@ -4,7 +4,8 @@ use mathlib.Core.List.{List, _∷_, _++_}
 use lib.ListN.{length, replicate}
 use Rattle.sim0mq.specs.Answer.{Answer, fine, refused, _>>_, guard}
 use Rattle.sim0mq.specs.Mark.{kindOf}
-use Rattle.scalars.specs.Bytes.{bigBytes, bytesOfMark}
+use Rattle.numbers.specs.Bytes.{bigBytes}
+use Rattle.scalars.specs.Bytes.{bytesOfMark}
 use Rattle.kinds.specs.declared.Mark.{Mark}
 use Rattle.encoding.specs.Scalars.{markTaken}
 use Rattle.sim0mq.specs.Table.{placed}

@@ -1,1 +1,2 @@
 pub mod NumberCases
+pub mod ByteLaws

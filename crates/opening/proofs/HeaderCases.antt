@@ -19,7 +19,7 @@ use Rattle.sim0mq.specs.Allowed.{frame0}
 use Rattle.sim0mq.proofs.Answers.{not-fine, fine-eq, bind-fine, guarded}
 use Rattle.sim0mq.proofs.Rows.{allPass, pass-among, eight-wide}
 use Rattle.header.proofs.FrameCases.{nth-id, nth-goes}
-use Rattle.scalars.specs.Bytes.{bitsOf}
+use Rattle.signed.specs.Signed.{bitsOf}
 use Rattle.sim0mq.specs.Table.{placed}
 use Rattle.buffers.specs.Placing.{putIn}
 use Rattle.puts.specs.Placing.{numberText}

@@ -13,7 +13,7 @@ use Rattle.sim0mq.specs.Header.{idCodes, countCodes, among, statusTaken, fields
 use Rattle.sim0mq.specs.Message.{limit}
 use Rattle.sim0mq.specs.Allowed.{frame0}
 use Rattle.sim0mq.specs.Table.{placed}
-use Rattle.scalars.specs.Bytes.{bitsOf}
+use Rattle.signed.specs.Signed.{bitsOf}
 use Rattle.puts.specs.Placing.{numberText}
 
 -- The n id frames from `at` on, each where the one before ends (1, 4, 5); after the last no byte is left (13). The

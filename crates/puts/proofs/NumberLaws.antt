@@ -9,7 +9,7 @@ use lib.Pow.{shr-lt}
 use Rattle.sim0mq.specs.Answer.{big}
 use Rattle.sim0mq.specs.Allowed.{numberAfter, number}
 use Rattle.sim0mq.proofs.Stands.{Stands, big-number}
-use Rattle.scalars.specs.Bytes.{bigBytes}
+use Rattle.numbers.specs.Bytes.{bigBytes}
 use Rattle.puts.proofs.PlaceLaws.{big-length}
 
 -- one byte more weighs least

@@ -5,7 +5,7 @@ use mathlib.Core.List.{List, [], _∷_, _++_, append-assoc}
 use native.Mathlib.Omega.{arith}
 use lib.ListN.{length, take, drop, set, length-append}
 use lib.Seq.{length-take-le, drop-at, set-split, take-set-le}
-use Rattle.scalars.specs.Bytes.{bigBytes}
+use Rattle.numbers.specs.Bytes.{bigBytes}
 use Rattle.buffers.specs.Placing.{putIn}
 use Rattle.puts.specs.Placing.{numberText}
 use Rattle.sim0mq.specs.Table.{placed}

@@ -10,7 +10,7 @@ use borrow.Author.Tests.{leb-false}
 use mir.Syntax.{Width}
 use mir.Val.{SFits, toZ, ofZ, hbits}
 use mir.ValLaws.{toZ-ofZ}
-use Rattle.scalars.specs.Bytes.{bitsOf}
+use Rattle.signed.specs.Signed.{bitsOf}
 use Rattle.signed.proofs.Signed.{down, widened}
 use Rattle.puts.specs.Signed.{bitsUpTo}
 

@@ -1,6 +1,6 @@
 // Numbers put into a buffer, and the bits that a signed number is put as.
 ghost use mathlib.Core.Path.{_≡_};
-ghost use Rattle.scalars.specs.Bytes.{bigBytes};
+ghost use Rattle.numbers.specs.Bytes.{bigBytes};
 ghost use Rattle.buffers.specs.Placing.{putIn};
 ghost use Rattle.puts.specs.Placing.{numberText};
 ghost use Rattle.puts.specs.Signed.{bitsUpTo};

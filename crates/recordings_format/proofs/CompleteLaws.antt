@@ -9,9 +9,8 @@ use borrow.Author.Tests.{le-leb, eq-eqb}
 use Rattle.sim0mq.specs.Answer.{fine, big}
 use Rattle.sim0mq.specs.Message.{noTable}
 use Rattle.sim0mq.specs.Allowed.{Each, none, more, joined}
-use Rattle.sim0mq.proofs.Stands.{Stands, stands-to, stands-left, stands-right, stands-self}
-use Rattle.scalars.specs.Bytes.{bigBytes}
-use Rattle.scalars.proofs.BackLaws.{part-back}
+use Rattle.sim0mq.proofs.Stands.{Stands, stands-to, stands-left, stands-right, stands-self, part-back}
+use Rattle.numbers.specs.Bytes.{bigBytes}
 use Rattle.puts.proofs.PlaceLaws.{big-length}
 use Rattle.puts.proofs.NumberLaws.{number-read}
 use Rattle.dividing.specs.Front.{Taken}

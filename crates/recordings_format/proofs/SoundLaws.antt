@@ -13,10 +13,9 @@ use Rattle.sim0mq.specs.Answer.{fine, partAt, big}
 use Rattle.sim0mq.specs.Message.{noTable, message}
 use Rattle.sim0mq.specs.Allowed.{Each, none, more, joined}
 use Rattle.sim0mq.proofs.Answers.{guarded, guarded-bind, bind-fine, part-fine, fine-eq}
-use Rattle.sim0mq.proofs.Stands.{Stands, stands-to, stands-nil, stands-join, stands-self, stands-same, part, stands-part}
-use Rattle.scalars.specs.Bytes.{bigBytes}
-use Rattle.scalars.proofs.ByteLaws.{bytes-back, big-fits}
-use Rattle.scalars.proofs.BackLaws.{part-back}
+use Rattle.sim0mq.proofs.Stands.{Stands, stands-to, stands-nil, stands-join, stands-self, stands-same, part, stands-part, part-back}
+use Rattle.numbers.specs.Bytes.{bigBytes}
+use Rattle.numbers.proofs.ByteLaws.{bytes-back, big-fits}
 use Rattle.puts.proofs.PlaceLaws.{big-length}
 use Rattle.dividing.specs.Front.{Taken}
 use Rattle.dividing.specs.Run.{stretches, total}

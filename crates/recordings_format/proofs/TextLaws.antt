@@ -6,7 +6,7 @@ use native.Mathlib.Omega.{arith}
 use native.Mathlib.Nat.{suc-mul, mul-suc, mul-zero, mul-le-mul-right}
 use lib.ListN.{length, length-append, length-map}
 use Rattle.sim0mq.specs.Allowed.{Each, none, more, joined}
-use Rattle.scalars.specs.Bytes.{bigBytes}
+use Rattle.numbers.specs.Bytes.{bigBytes}
 use Rattle.puts.proofs.PlaceLaws.{big-length}
 use Rattle.dividing.specs.Front.{Taken}
 use Rattle.dividing.specs.Run.{total}

@@ -17,7 +17,7 @@ use Rattle.sim0mq.proofs.Answers.{fine-eq, guarded, and-true}
 use Rattle.sim0mq.proofs.PlaceLaws.{placed-nothing, placed-length, placed-on}
 use Rattle.buffers.specs.Placing.{putIn}
 use Rattle.buffers.proofs.PlaceLaws.{put-fits}
-use Rattle.scalars.specs.Bytes.{bigBytes}
+use Rattle.numbers.specs.Bytes.{bigBytes}
 use Rattle.opening.specs.Opening.{bufferAfter}
 use Rattle.puts.proofs.PlaceLaws.{big-length}
 use Rattle.sim0mq.specs.Allowed.{Each, none, more}

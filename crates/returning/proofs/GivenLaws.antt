@@ -11,11 +11,10 @@ use Rattle.sim0mq.specs.Field.{after}
 use Rattle.sim0mq.specs.Payload.{payload, payloadFrom}
 use Rattle.sim0mq.specs.Allowed.{Each, none, more, FieldParts, fieldBytes, IsField}
 use Rattle.sim0mq.proofs.Answers.{bind-fine, guarded, fine-eq}
-use Rattle.sim0mq.proofs.Stands.{Stands, stands-left, stands-right, stands-self, stands-same}
+use Rattle.sim0mq.proofs.Stands.{Stands, stands-left, stands-right, stands-self, stands-same, part-back}
 use Rattle.sim0mq.proofs.FieldLaws.{fieldAt, after-at}
 use Rattle.sim0mq.proofs.PayloadLaws.{fieldsAt, payload-complete, payload-sound}
 use Rattle.scalars.specs.Promises.{ownBytes}
-use Rattle.scalars.proofs.BackLaws.{part-back}
 use Rattle.encoding.specs.Scalars.{writable, scalarGiven}
 use Rattle.writing.specs.Writing.{Given, encoded, scalar, fieldGiven}
 use Rattle.returning.specs.History.{bytesOf}

@@ -11,8 +11,8 @@ use lib.IntN.{ℤ, pos, negsuc}
 use borrow.Author.Tests.{lt-ltb, le-ltb}
 use Rattle.sim0mq.specs.Codes.{codeKnown, countsOf, markingOf, widthOf, boolean}
 use Rattle.sim0mq.specs.Allowed.{Each, none, IsMark, FieldParts, valuesAsked, marksAsked, IsField}
-use Rattle.signed.specs.Signed.{twos}
-use Rattle.scalars.specs.Bytes.{bigBytes, bitsOf}
+use Rattle.signed.specs.Signed.{twos, bitsOf}
+use Rattle.numbers.specs.Bytes.{bigBytes}
 use Rattle.returning.specs.Promises.{InWidth}
 use Rattle.puts.proofs.PlaceLaws.{big-length}
 

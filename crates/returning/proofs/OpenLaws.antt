@@ -16,7 +16,8 @@ use Rattle.sim0mq.specs.Allowed.{Each, none, more, FieldParts, fieldBytes, numb
 use Rattle.sim0mq.proofs.Answers.{bind-fine, guarded, fine-eq, and-true}
 use Rattle.sim0mq.proofs.Stands.{stands-self, stands-same}
 use Rattle.sim0mq.proofs.Rows.{allPass, count-scalar}
-use Rattle.scalars.specs.Bytes.{bigBytes, bitsOf}
+use Rattle.numbers.specs.Bytes.{bigBytes}
+use Rattle.signed.specs.Signed.{bitsOf}
 use Rattle.puts.specs.Placing.{numberText}
 use Rattle.opening.specs.Opening.{holds, headerWith, idsFrom, fitting, headerGiven}
 use Rattle.writing.specs.Writing.{Opening, countCode, headerText, opening}

@@ -15,17 +15,16 @@ use Rattle.sim0mq.specs.Message.{limit, noTable, enough, Reading, reading}
 use Rattle.sim0mq.specs.Allowed.{Each, more, FieldParts, fieldBytes, number, frame0, headerBytes, IsHeader, MessageParts, messageBytes, IsMessage}
 use Rattle.sim0mq.specs.Demand2.{cutFrames}
 use Rattle.sim0mq.proofs.Answers.{not-fine, fine-eq, guarded}
-use Rattle.sim0mq.proofs.Stands.{Stands, stands-to, stands-head, stands-tail, stands-left, stands-right, stands-self, big-number}
+use Rattle.sim0mq.proofs.Stands.{Stands, stands-to, stands-head, stands-tail, stands-left, stands-right, stands-self, big-number, part-back}
 use Rattle.sim0mq.proofs.MessageLaws.{cutOf, message-complete}
 use Rattle.sim0mq.proofs.Demand2.{room-is-all-that-counts}
-use Rattle.scalars.specs.Bytes.{bigBytes, bitsOf}
+use Rattle.numbers.specs.Bytes.{bigBytes}
 use Rattle.asking.specs.Asking.{nth}
-use Rattle.signed.specs.Signed.{twos}
+use Rattle.signed.specs.Signed.{twos, bitsOf}
 use Rattle.scalars.specs.Scalars.{value}
 use Rattle.scalars.specs.Promises.{ownBytes, valueAlone}
 use Rattle.kinds.specs.declared.Scalar.{Scalar}
 use Rattle.asking.proofs.AskLaws.{asked-nth}
-use Rattle.scalars.proofs.BackLaws.{part-back}
 use Rattle.asking.proofs.Promises.{asking-agrees-with-reading}
 use Rattle.scalars.proofs.Promises.{value-is-its-bytes}
 use Rattle.encoding.specs.Scalars.{scalarText, writable, scalarGiven}

@@ -13,11 +13,10 @@ use Rattle.sim0mq.specs.Answer.{fine, byte}
 use Rattle.sim0mq.specs.Message.{limit, Reading, reading}
 use Rattle.sim0mq.specs.Allowed.{Each, none, more, FieldParts, fieldBytes, IsField, HeaderParts, frame0, headerFrames, IsHeader, headerBytes, MessageParts, messageBytes, IsMessage}
 use Rattle.sim0mq.specs.Demand2.{cutFrames}
-use Rattle.sim0mq.proofs.Stands.{Stands, stands-to, stands-left, stands-right, stands-self}
+use Rattle.sim0mq.proofs.Stands.{Stands, stands-to, stands-left, stands-right, stands-self, part-back}
 use Rattle.sim0mq.proofs.PayloadLaws.{fields-many}
 use Rattle.sim0mq.proofs.MessageLaws.{cutOf, message-sound}
 use Rattle.scalars.specs.Promises.{ownBytes}
-use Rattle.scalars.proofs.BackLaws.{part-back}
 use Rattle.sim0mq.specs.Table.{placed}
 use Rattle.opening.specs.Opening.{fitting, bufferAfter}
 use Rattle.writing.specs.Writing.{Opening, headerText, opening, afterOpening, Given, encoded, fieldGiven, takes, adding, afterAdding, closing}

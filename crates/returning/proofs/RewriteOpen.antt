@@ -17,11 +17,12 @@ use Rattle.sim0mq.specs.Header.{numberCodes, statusCodes, countCodes, among, st
 use Rattle.sim0mq.specs.Message.{limit}
 use Rattle.sim0mq.specs.Allowed.{number, none, more, FieldParts, fieldBytes, IsFrame, HeaderParts, frame0, headerBytes, IsHeader}
 use Rattle.sim0mq.proofs.Rows.{allPass, pass-among, status-scalar, count-scalar}
-use Rattle.sim0mq.proofs.Stands.{Stands, stands-head, stands-tail, stands-self, big-number}
-use Rattle.scalars.specs.Bytes.{bigBytes, bitsOf}
-use Rattle.signed.specs.Signed.{twos}
-use Rattle.scalars.proofs.ByteLaws.{bytes-back, big-fits, bits-back}
-use Rattle.scalars.proofs.BackLaws.{part-back, one-byte}
+use Rattle.sim0mq.proofs.Stands.{Stands, stands-head, stands-tail, stands-self, big-number, part-back}
+use Rattle.numbers.specs.Bytes.{bigBytes}
+use Rattle.signed.specs.Signed.{twos, bitsOf}
+use Rattle.numbers.proofs.ByteLaws.{bytes-back, big-fits}
+use Rattle.signed.proofs.Signed.{bits-back}
+use Rattle.scalars.proofs.BackLaws.{one-byte}
 use Rattle.puts.specs.Placing.{numberText}
 use Rattle.opening.specs.Opening.{holds, headerWith, idsFrom, fitting, headerGiven}
 use Rattle.writing.specs.Writing.{Opening, asksFor, countCode, headerText, opening}

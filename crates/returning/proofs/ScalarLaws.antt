@@ -21,10 +21,11 @@ use Rattle.sim0mq.proofs.Stands.{Stands, stands-self, stands-head, stands-tail,
 use Rattle.sim0mq.proofs.Rows.{currency-most}
 use Rattle.sim0mq.proofs.HeaderLaws.{values-there}
 use Rattle.sim0mq.proofs.FieldLaws.{fieldAt, field-complete}
-use Rattle.signed.specs.Signed.{twos}
+use Rattle.signed.specs.Signed.{twos, bitsOf}
 use Rattle.kinds.specs.Kinds.{floatOf, doubleOf, withFloat, withDouble}
 use Rattle.scalars.specs.Scalars.{markOf, markAt, scalarOf}
-use Rattle.scalars.specs.Bytes.{bigBytes, bitsOf, scalarBytes, bytesOfMark, markBytes}
+use Rattle.numbers.specs.Bytes.{bigBytes}
+use Rattle.scalars.specs.Bytes.{scalarBytes, bytesOfMark, markBytes}
 use Rattle.scalars.specs.Promises.{valueAlone}
 use Rattle.kinds.specs.declared.Mark.{Mark}
 use Rattle.kinds.specs.declared.Scalar.{Scalar}

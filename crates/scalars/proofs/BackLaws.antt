@@ -1,39 +1,38 @@
 -- A value gives back its bytes, since by its code the field has one value of that width, and writing a number undoes
 -- reading it.
 use Prim.Native.Nat.{ℕ, _+_, _-_, _*_, _<_, _≤_}
-use mathlib.Core.Path.{_≡_, refl, ap, sym, _∙_}
-use mathlib.Core.Bool.{Bool, true, false, cond}
+use mathlib.Core.Path.{_≡_, refl, ap, sym, _∙_, subst}
+use mathlib.Core.Bool.{Bool, true, false, cond, not}
+use lib.Dec.{T}
 use mathlib.Core.List.{List, [], _∷_, flatMap}
 use native.Mathlib.Omega.{arith}
 use native.Mathlib.Nat.{add-zero, zero-add}
-use lib.ListN.{length, getD, take, drop, length-append, length-take, length-drop}
-use lib.Seq.{getD-take, getD-drop, ext-getD}
-use lib.Ieee.{binary32, binary64, nanBits, ofBits}
+use lib.ListN.{length, getD, take, drop, length-append}
+use lib.Ieee.{Format, top, binary32, binary64, nanBits, ofBits, toBits}
+use lib.Ieee.Bits.{toBits-ofBits, nanBits-is}
 use Rattle.sim0mq.specs.Answer.{fine, byte, big}
 use Rattle.sim0mq.specs.Codes.{countsOf, markingOf, widthOf, boolean}
 use Rattle.sim0mq.specs.Field.{Field}
 use Rattle.sim0mq.specs.Mark.{kindOf}
 use Rattle.sim0mq.specs.Allowed.{Each, none, more, IsMark, withDisplay, withCurrency, withBoth, joined, marksAsked}
-use Rattle.sim0mq.proofs.Stands.{Stands, stands-head, stands-tail, stands-left}
+use Rattle.sim0mq.proofs.Stands.{Stands, stands-head, stands-tail, stands-left, part-back}
+use Rattle.numbers.specs.Bytes.{bigBytes}
+use Rattle.numbers.proofs.ByteLaws.{bytes-back, big-fits}
 use Rattle.asking.specs.Asking.{asked}
-use Rattle.signed.specs.Signed.{twos}
+use Rattle.signed.specs.Signed.{twos, bitsOf}
+use Rattle.signed.proofs.Signed.{bits-back}
 use Rattle.kinds.specs.Kinds.{floatOf, doubleOf, withFloat, withDouble}
 use Rattle.scalars.specs.Scalars.{markOf, markAt}
-use Rattle.scalars.specs.Bytes.{bigBytes, bitsOf, scalarBytes, bytesOfMark, markBytes}
+use Rattle.scalars.specs.Bytes.{scalarBytes, bytesOfMark, markBytes}
 use Rattle.scalars.specs.Promises.{WritesBack}
 use Rattle.kinds.specs.declared.Scalar.{Scalar}
 use Rattle.kinds.specs.declared.Scalar.the-variants.{Float, Double, FloatUnit, DoubleUnit, NotNumber}
-use Rattle.scalars.proofs.ByteLaws.{bytes-back, big-fits, bits-back, float-back}
 use Rattle.scalars.proofs.OneLaws.{asked-one}
 use Rattle.scalars.proofs.ReadCases.{ReadAs, asByte, asShort, asInt, asLong, asFloat, asDouble, asBoolean, asChar8, asChar16, asFloatUnit, asDoubleUnit}
 
--- a string that stands somewhere is the part there
-pub part-back : {s : List ℕ} {at : ℕ} (l : List ℕ) → Stands s at l → take (length l) (drop at s) ≡ l
-part-back {s} {at} l st =
-    let fits = st .fits in
-    let e : length (take (length l) (drop at s)) ≡ length l = simp (length-take, length-drop) (omega arith) in
-    ext-getD 0 (take (length l) (drop at s)) l e
-    (λ i h. getD-take (length l) (drop at s) i 0 (omega arith) ∙ getD-drop at s i 0 ∙ st .same i (omega arith))
+-- the bits of a float that is no NaN are those it was read from
+pub float-back : (f : Format) (n : ℕ) → n < 2 * top f → nanBits f n ≡ false → toBits f (ofBits f n) ≡ n
+float-back f n h e = toBits-ofBits f n h (subst (λ (b : Bool). T (not b)) (sym (sym (nanBits-is f n) ∙ e)) tt)
 
 -- a value that is not told to be no number passed the test
 number : (b : Bool) (k : ℕ) (u v : Scalar) → cond b (NotNumber k) u ≡ v → ((c : ℕ) → v ≡ NotNumber c → ⊥) → (b ≡ false) × (u ≡ v)

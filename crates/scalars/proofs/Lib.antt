@@ -4,7 +4,6 @@ pub mod StandingLaws
 pub mod ValueLaws
 pub mod ReadCases
 pub mod NotNumbers
-pub mod ByteLaws
 pub mod BackLaws
 pub mod AloneLaws
 pub mod Promises

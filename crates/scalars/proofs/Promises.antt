@@ -6,14 +6,14 @@ use lib.ListN.{length, take, drop}
 use Rattle.sim0mq.specs.Answer.{Answer, fine, refused, _>>=_}
 use Rattle.sim0mq.specs.Field.{Field, after, field}
 use Rattle.sim0mq.specs.Allowed.{fieldBytes}
-use Rattle.sim0mq.proofs.Stands.{stands-self}
+use Rattle.sim0mq.proofs.Stands.{stands-self, part-back}
 use Rattle.sim0mq.proofs.FieldLaws.{fieldAt, after-at, field-complete}
 use Rattle.asking.proofs.PartLaws.{asked-parts}
 use Rattle.scalars.specs.Scalars.{scalarOf, value}
 use Rattle.scalars.specs.Promises.{Value-agrees-with-asking, Not-a-number-exactly, ownBytes, Value-is-its-bytes, Value-gives-back-its-bytes}
 use Rattle.kinds.specs.declared.Scalar.the-variants.{NotNumber}
 use Rattle.scalars.proofs.AloneLaws.{value-alone}
-use Rattle.scalars.proofs.BackLaws.{part-back, value-back}
+use Rattle.scalars.proofs.BackLaws.{value-back}
 use Rattle.scalars.proofs.NotNumbers.{nan-only, nan-always}
 use Rattle.scalars.proofs.ReadCases.{read-as}
 use Rattle.scalars.proofs.StandingLaws.{asked-standing}

@@ -1,24 +1,15 @@
 -- The bytes that a scalar value is written in (000, 2.1 and 2.2): the other way round from specs/Scalars, so that
 -- reading can be held against it.
-use Prim.Native.Nat.{ℕ, zero, suc, _-_, _/_, _%_, _^_}
+use Prim.Native.Nat.{ℕ}
 use mathlib.Core.Bool.{cond}
 use mathlib.Core.List.{List, [], _∷_, _++_}
-use lib.IntN.{ℤ, pos, negsuc}
 use lib.Ieee.{binary32, binary64, toBits}
 use Rattle.sim0mq.specs.Mark.{Kind, plain, money, moneyPer, unknown, kindOf}
+use Rattle.numbers.specs.Bytes.{bigBytes}
+use Rattle.signed.specs.Signed.{bitsOf}
 use Rattle.kinds.specs.declared.Mark.{Mark}
 use Rattle.kinds.specs.declared.Scalar.{Scalar}
 use Rattle.kinds.specs.declared.Scalar.the-variants.{Byte, Short, Int, Long, Float, Double, Boolean, Char8, Char16, FloatUnit, DoubleUnit, NotNumber}
-
--- The n bytes that the number x is written in, the first weighing most.
-unfoldable pub bigBytes : ℕ → ℕ → List ℕ
-bigBytes zero x = []
-bigBytes (suc n) x = bigBytes n (x / 256) ++ (x % 256 ∷ [])
-
--- The bits of a signed number in w bits of two's complement: a number below zero is written as it plus 2 ^ w.
-unfoldable pub bitsOf : ℕ → ℤ → ℕ
-bitsOf w (pos n) = n
-bitsOf w (negsuc n) = 2 ^ w - suc n
 
 -- The bytes of the value itself; a NaN has none of its own.
 unfoldable pub scalarBytes : Scalar → List ℕ

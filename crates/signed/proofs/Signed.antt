@@ -2,7 +2,7 @@
 -- width.
 use Prim.Native.Nat.{ℕ, zero, suc, _-_, _<_, _≤_, _^_}
 use mathlib.Core.Path.{_≡_, refl, ap, _∙_}
-use mathlib.Core.Bool.{Bool, true, false}
+use mathlib.Core.Bool.{Bool, true, false, cond}
 use lib.Dec.{T, ltb}
 use lib.IntN.{ℤ, pos, negsuc, _-ℤ_, natAbs}
 use lib.Signed.{mag, nonNeg, leZ}
@@ -12,7 +12,7 @@ use mir.Syntax.{Width, w8, w16, w32, w64, w128}
 use mir.Val.{SFits, Fits, toZ, ofZ, hbits, bits}
 use mir.ValLaws.{toZ-pos, toZ-ofZ}
 use mir.Facts.{fits-natAbs}
-use Rattle.signed.specs.Signed.{twos}
+use Rattle.signed.specs.Signed.{twos, bitsOf}
 
 minus-one : (y : ℕ) → negsuc 0 -ℤ pos y ≡ negsuc y
 minus-one zero = refl
@@ -25,6 +25,15 @@ twos-low w n h = simp (lt-ltb _ _ h)
 pub twos-high : (w n : ℕ) → 2 ^ (w - 1) ≤ n → twos w n ≡ negsuc (2 ^ w - suc n)
 unfolding twos
 twos-high w n h = simp (le-ltb _ _ h)
+
+-- the bits of a signed number are those it was read from
+pub bits-back : (w n : ℕ) → n < 2 ^ w → bitsOf w (twos w n) ≡ n
+unfolding bitsOf twos
+bits-back w n h = either (ltb n (2 ^ (w - 1)))
+  where
+    either : (b : Bool) → bitsOf w (cond b (pos n) (negsuc (2 ^ w - suc n))) ≡ n
+    either true = refl
+    either false = omega arith
 
 -- -1 - y of a y that a signed number of the width holds.
 module _ (w : Width) (y : ℕ) (h : y < 2 ^ hbits w) where

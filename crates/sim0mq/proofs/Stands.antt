@@ -74,6 +74,14 @@ stands-self s = record { fits = omega arith; same = λ i h. ap (λ (n : ℕ). ge
 pub stands-same : {s : List ℕ} {at : ℕ} (l m : List ℕ) → length l ≡ length m → Stands s at l → Stands s at m → l ≡ m
 stands-same l m e a b = ext-getD 0 l m e (λ i h. sym (a .same i h) ∙ b .same i (omega arith))
 
+-- a string that stands somewhere is the part there
+pub part-back : {s : List ℕ} {at : ℕ} (l : List ℕ) → Stands s at l → take (length l) (drop at s) ≡ l
+part-back {s} {at} l st =
+    let fits = st .fits in
+    let e : length (take (length l) (drop at s)) ≡ length l = simp (length-take, length-drop) (omega arith) in
+    ext-getD 0 (take (length l) (drop at s)) l e
+    (λ i h. getD-take (length l) (drop at s) i 0 (omega arith) ∙ getD-drop at s i 0 ∙ st .same i (omega arith))
+
 -- what stands in the part from b on stands in the whole, and back
 pub into-part : {s l : List ℕ} (b : ℕ) → Stands s b l → Stands (drop b s) 0 l
 into-part {s} {l} b st =

@@ -5,7 +5,7 @@ use native.Mathlib.Omega.{arith}
 use Prim.Native.Nat.{ℕ, _+_, _-_, _%_, _≤_}
 use mathlib.Core.Path.{_≡_, refl, ap, sym, _∙_}
 use lib.ListN.{length, length-set}
-use Rattle.scalars.specs.Bytes.{bigBytes}
+use Rattle.numbers.specs.Bytes.{bigBytes}
 use Rattle.sim0mq.specs.Table.{placed}
 use Rattle.sim0mq.proofs.PlaceLaws.{placed-nothing}
 use Rattle.puts.proofs.PlaceLaws.{placed-turn, big-fits, big-over}

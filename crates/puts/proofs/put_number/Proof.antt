@@ -4,7 +4,7 @@ use Prim.Native.Nat.{_+_, _≤_}
 use native.Mathlib.Omega.{arith}
 use mathlib.Core.Path.{ap, sym, _∙_}
 use lib.ListN.{length, set, length-set}
-use Rattle.scalars.specs.Bytes.{bigBytes}
+use Rattle.numbers.specs.Bytes.{bigBytes}
 use Rattle.puts.specs.Placing.{numberText}
 use Rattle.sim0mq.proofs.PlaceLaws.{placed-length}
 use Rattle.buffers.proofs.PlaceLaws.{put-fits, put-over}

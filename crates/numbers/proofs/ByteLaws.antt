@@ -1,21 +1,15 @@
 -- Writing a number gives back the bytes that it was read from, since a byte is what is left of the number after
 -- division by 256.
-use Prim.Native.Nat.{ℕ, zero, suc, _+_, _-_, _*_, _/_, _%_, _<_, _≤_, _^_}
+use Prim.Native.Nat.{ℕ, zero, suc, _+_, _*_, _/_, _%_, _<_, _≤_, _^_}
 use mathlib.Core.Path.{_≡_, refl, ap, sym, _∙_, subst}
-use mathlib.Core.Bool.{Bool, true, false, cond, not}
 use mathlib.Core.List.{List, [], _∷_, _++_}
 use native.Mathlib.Omega.{arith}
 use lib.Arith.{digits-lt, digits-div, digits-mod}
 use lib.Pow.{pow-add}
-use lib.Dec.{T, ltb}
-use lib.IntN.{pos, negsuc}
 use lib.ListN.{length, take, drop, length-drop}
 use lib.Seq.{take-suc, getD-drop}
-use lib.Ieee.{Format, top, nanBits, ofBits, toBits}
-use lib.Ieee.Bits.{toBits-ofBits, nanBits-is}
 use Rattle.sim0mq.specs.Answer.{byte, big}
-use Rattle.signed.specs.Signed.{twos}
-use Rattle.scalars.specs.Bytes.{bigBytes, bitsOf}
+use Rattle.numbers.specs.Bytes.{bigBytes}
 
 module _ (s : List ℕ) (bytes : (i : ℕ) → byte s i < 256) where
   -- the bytes of a number that is read are those it was read from
@@ -37,16 +31,3 @@ module _ (s : List ℕ) (bytes : (i : ℕ) → byte s i < 256) where
       let e : 8 * suc n ≡ 8 * n + 8 = omega arith in
       let p : 2 ^ (8 * suc n) ≡ 2 ^ (8 * n) * 256 = ap (λ (k : ℕ). 2 ^ k) e ∙ pow-add 2 (8 * n) 8 in
       subst (λ (k : ℕ). big s at n * 256 + byte s (at + n) < k) (sym p) (digits-lt (big-fits n at) (bytes (at + n)))
-
--- the bits of a signed number are those it was read from
-pub bits-back : (w n : ℕ) → n < 2 ^ w → bitsOf w (twos w n) ≡ n
-unfolding bitsOf twos
-bits-back w n h = either (ltb n (2 ^ (w - 1)))
-  where
-    either : (b : Bool) → bitsOf w (cond b (pos n) (negsuc (2 ^ w - suc n))) ≡ n
-    either true = refl
-    either false = omega arith
-
--- and so are those of a float that is no NaN
-pub float-back : (f : Format) (n : ℕ) → n < 2 * top f → nanBits f n ≡ false → toBits f (ofBits f n) ≡ n
-float-back f n h e = toBits-ofBits f n h (subst (λ (b : Bool). T (not b)) (sym (sym (nanBits-is f n) ∙ e)) tt)
