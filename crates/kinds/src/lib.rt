@@ -26,11 +26,21 @@ pub enum Scalar {
     NotNumber(u8),
 }
 
+// The bits of a float's infinity, and its sign's bit: bits that are above infinity's without the sign are a NaN.
+pub const FLOAT_INFINITY: u32 = 2139095040;
+
+pub const FLOAT_SIGN: u32 = 2147483648;
+
+// The same of a double.
+pub const DOUBLE_INFINITY: u64 = 9218868437227405312;
+
+pub const DOUBLE_SIGN: u64 = 9223372036854775808;
+
 // The float of these bits, of a field of code 4; or that they are not a number.
 pub fn float_of(x: u32) -> Scalar
     ensures { λ r. ⌜ r ≡ floatOf x ⌝ }
 {
-    if 2139095040 < x % 2147483648 {
+    if FLOAT_INFINITY < x % FLOAT_SIGN {
         Scalar::NotNumber(4)
     } else {
         Scalar::Float(f32::from_bits(x))
@@ -41,7 +51,7 @@ pub fn float_of(x: u32) -> Scalar
 pub fn double_of(x: u64) -> Scalar
     ensures { λ r. ⌜ r ≡ doubleOf x ⌝ }
 {
-    if 9218868437227405312 < x % 9223372036854775808 {
+    if DOUBLE_INFINITY < x % DOUBLE_SIGN {
         Scalar::NotNumber(5)
     } else {
         Scalar::Double(f64::from_bits(x))
@@ -52,7 +62,7 @@ pub fn double_of(x: u64) -> Scalar
 pub fn float_with(bits: u32, mark: Mark) -> Scalar
     ensures { λ r. ⌜ r ≡ withFloat bits mark ⌝ }
 {
-    if 2139095040 < bits % 2147483648 {
+    if FLOAT_INFINITY < bits % FLOAT_SIGN {
         Scalar::NotNumber(25)
     } else {
         Scalar::FloatUnit(f32::from_bits(bits), mark)
@@ -63,7 +73,7 @@ pub fn float_with(bits: u32, mark: Mark) -> Scalar
 pub fn double_with(bits: u64, mark: Mark) -> Scalar
     ensures { λ r. ⌜ r ≡ withDouble bits mark ⌝ }
 {
-    if 9218868437227405312 < bits % 9223372036854775808 {
+    if DOUBLE_INFINITY < bits % DOUBLE_SIGN {
         Scalar::NotNumber(26)
     } else {
         Scalar::DoubleUnit(f64::from_bits(bits), mark)

@@ -1,5 +1,9 @@
 // The scalar that a line tells: its kind and its number, as the text of what asking answers has them. A float and a
 // double are told by their bits.
+use kinds::DOUBLE_INFINITY;
+use kinds::DOUBLE_SIGN;
+use kinds::FLOAT_INFINITY;
+use kinds::FLOAT_SIGN;
 use kinds::Mark;
 use kinds::Scalar;
 use lines::Figure;
@@ -181,7 +185,7 @@ fn double(text: &[u8]) -> Told {
 
 // The float of these bits, NaNs too.
 fn float_of(bits: u32) -> f32 {
-    if 2139095040 < bits % 2147483648 {
+    if FLOAT_INFINITY < bits % FLOAT_SIGN {
         let zero: f32 = 0.0;
         return zero / zero;
     }
@@ -190,7 +194,7 @@ fn float_of(bits: u32) -> f32 {
 
 // The double of these bits, NaNs too.
 fn double_of(bits: u64) -> f64 {
-    if 9218868437227405312 < bits % 9223372036854775808 {
+    if DOUBLE_INFINITY < bits % DOUBLE_SIGN {
         let zero: f64 = 0.0;
         return zero / zero;
     }
