@@ -10,7 +10,7 @@ use lib.Dec.{leb}
 use borrow.Author.Tests.{le-leb, lt-leb, leb-true}
 use Rattle.sim0mq.specs.Answer.{Answer, fine, refused, partAt, lengthOf}
 use Rattle.sim0mq.specs.Field.{Field, after}
-use Rattle.sim0mq.specs.Header.{Header}
+use Rattle.sim0mq.specs.Header.{Header, mostFields}
 use Rattle.sim0mq.specs.Payload.{payloadFrom, payload, moved}
 use Rattle.sim0mq.specs.Message.{noTable, reading}
 use Rattle.sim0mq.specs.Table.{row, rows, rowSize, stored, placed}
@@ -263,7 +263,7 @@ module _ (room : ℕ) (s : List ℕ) where
   blank-closed k p e = simp (reading-closed noTable s k p e)
 
   module _ (h : Header) (a : frontOf noTable s ≡ fine h) (n next : ℕ) (p : h .fields ≡ n) (q : h .next ≡ next) where
-    pub blank-copyable : Copyable s next n (256 * rowSize)
+    pub blank-copyable : Copyable s next n (mostFields * rowSize)
     unfolding rowSize
     blank-copyable =
         let w = open-within noTable s h a n next p q in

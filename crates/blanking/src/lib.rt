@@ -4,6 +4,7 @@ ghost use mathlib.Core.Path.{_≡_};
 ghost use Prim.Native.Nat.{_+_, _*_, _≤_};
 ghost use lib.ListN.{length, drop};
 ghost use Rattle.sim0mq.specs.Answer.{lengthOf};
+ghost use Rattle.sim0mq.specs.Header.{mostFields};
 ghost use Rattle.sim0mq.specs.Blank.{blanked, blanking, outputAfter};
 ghost use Rattle.sim0mq.specs.Views.{judged};
 ghost use Rattle.blanking.specs.Blanking.{copying, fieldsOf, Copyable, Blankable};
@@ -16,6 +17,7 @@ use front::opened;
 use header::Said;
 use numbers::wide32;
 use payload::payload;
+use sim0mq::FIELDS;
 use sim0mq::Judged;
 use sim0mq::ROW;
 
@@ -87,7 +89,7 @@ fn copied_by(message: &[u8], next: usize, n: usize, kept: &mut [u32], out: &mut 
 // Judges the payload of n fields that begins at `next`, and makes the copy once it is accepted and there is room for
 // it: the copy's length, or the refusal.
 fn copied(message: &[u8], next: usize, n: usize, out: &mut [u8]) -> Judged
-    requires { ⌜ Copyable (now message) next n (256 * rowSize) ⌝ }
+    requires { ⌜ Copyable (now message) next n (mostFields * rowSize) ⌝ }
     ensures answer { λ r. ⌜ judged r ≡ lengthOf (copying (length (now (out .entry))) (now (message .entry)) next n) ⌝ }
     ensures copied { λ _. ⌜
         now (out .exit)
@@ -98,7 +100,7 @@ fn copied(message: &[u8], next: usize, n: usize, out: &mut [u8]) -> Judged
         let mut few = [0u32; 8 * ROW];
         return copied_by(message, next, n, &mut few, out);
     }
-    let mut all = [0u32; 256 * ROW];
+    let mut all = [0u32; FIELDS * ROW];
     copied_by(message, next, n, &mut all, out)
 }
 

@@ -12,7 +12,7 @@ use borrow.Author.Tests.{leb-true, le-leb}
 use Rattle.sim0mq.specs.Answer as S
 use Rattle.sim0mq.specs.Answer.{fine, refused}
 use Rattle.sim0mq.specs.Field.{Field}
-use Rattle.sim0mq.specs.Header.{Header, fieldsTaken, header}
+use Rattle.sim0mq.specs.Header.{Header, mostFields, fieldsTaken, header}
 use Rattle.sim0mq.specs.Table.{row, rowSize, rows, stored}
 use Rattle.sim0mq.specs.Message as M
 use Rattle.sim0mq.specs.Message.{limit, enough, message, reading, tableAfter}
@@ -40,8 +40,8 @@ use Rattle.commands.proofs.EachLaws.{held}
 number-eq : {k p j q : ℕ} → _≡_ {A = S.Answer ℕ} (refused k p) (refused j q) → k ≡ j
 number-eq e = cc
 
--- 256 rows are the most
-rows-fit : (n : ℕ) → n ≤ 256 → rowSize * n ≤ 256 * rowSize
+-- there are no more rows than fields
+rows-fit : (n : ℕ) → n ≤ mostFields → rowSize * n ≤ mostFields * rowSize
 unfolding rowSize
 rows-fit n h = omega arith
 
@@ -88,18 +88,18 @@ module _ (r : ℕ) (s : List ℕ) where
       go (inl e) = absurd (d (number-eq (q ∙ judged-short e)))
       go (inr e) = q ∙ judged-alike e
 
--- a table for 256 fields has room for every message
-pub by-all : (s : List ℕ) → commandedBy (256 * rowSize) s ≡ commanded s
+-- a table for the most fields has room for every message
+pub by-all : (s : List ℕ) → commandedBy (mostFields * rowSize) s ≡ commanded s
 unfolding reading message enough fieldsTaken
-by-all s = judged-alike (256 * rowSize) s (by-length (leb (length s) limit) refl)
+by-all s = judged-alike (mostFields * rowSize) s (by-length (leb (length s) limit) refl)
   where
     Same : Type 0
-    Same = reading (M.table (256 * rowSize)) s ≡ reading M.noTable s
+    Same = reading (M.table (mostFields * rowSize)) s ≡ reading M.noTable s
 
     by-header : leb (length s) limit ≡ true → (a : S.Answer Header) → header s ≡ a → Same
     by-header l (fine h) q =
-        let most = leb-true (h .fields) 256 (header-sound s h q .is .taken) in
-        simp (l, q, le-leb (rowSize * h .fields) (256 * rowSize) (rows-fit (h .fields) most))
+        let most = leb-true (h .fields) mostFields (header-sound s h q .is .taken) in
+        simp (l, q, le-leb (rowSize * h .fields) (mostFields * rowSize) (rows-fit (h .fields) most))
     by-header l (refused k p) q = simp (l, q)
 
     by-length : (b : Bool) → leb (length s) limit ≡ b → Same
@@ -113,11 +113,11 @@ rows-long (f ∷ fs) = omega (arith, length-append (row f) (rows fs), rows-long 
 
 -- what is known of a message that is accepted with what is lent
 module _ (s : List ℕ) (m : M.Reading) (r : ℕ) (q : reading (M.table r) s ≡ fine m) where
-  pub few : length (m .fields) ≤ 256
+  pub few : length (m .fields) ≤ mostFields
   unfolding reading fieldsTaken
   few =
       let f = message-sound limit (M.table r) s m q in
-      let most = leb-true (length (f .parts .fields)) 256 (f .is .isHeader .taken) in
+      let most = leb-true (length (f .parts .fields)) mostFields (f .is .isHeader .taken) in
       let e : length (m .fields) ≡ length (f .parts .fields)
       = ap (λ (x : M.Reading). length (x .fields)) (f .says) ∙ fields-many _ (f .parts .fields) in
       omega arith
@@ -182,7 +182,7 @@ module _
       many : length (got .0 .fields) ≡ f .fields
       many = ap (λ (x : Found). x .fields) (got .2)
 
-      pub command-few : f .fields ≤ 256
+      pub command-few : f .fields ≤ mostFields
       command-few = let l = few s (got .0) (length t) (got .1) in let n = many in omega arith
 
       pub command-room : rowSize * f .fields ≤ length u

@@ -5,6 +5,7 @@ ghost use Prim.Native.Nat.{_+_, _-_, _*_, _<_, _≤_};
 ghost use lib.ListN.{length, getD};
 ghost use Rattle.sim0mq.specs.Answer.{big};
 ghost use Rattle.sim0mq.specs.Field as F;
+ghost use Rattle.sim0mq.specs.Header.{mostFields};
 ghost use Rattle.sim0mq.specs.Table.{rowSize};
 ghost use Rattle.sim0mq.specs.Views.{judged};
 ghost use Rattle.commands_page.specs.Page.{numberOr, basic as basicOf, stateString, faultString, rowAt, page};
@@ -15,6 +16,7 @@ use numbers::wide;
 use numbers::wide32;
 use reading::Reading;
 use reading::read;
+use sim0mq::FIELDS;
 use sim0mq::Judged;
 use sim0mq::ROW;
 use sim0mq::Refusal;
@@ -311,7 +313,7 @@ fn passes(
 
 // Whether field i of a command, whose row the table has, passes the test of refusal `number`.
 fn right(s: &[u8], command: usize, number: u32, i: usize, table: &[u32]) -> bool
-    requires { ⌜ (command < 18) × (i < 256) × (rowSize * i + rowSize ≤ length (now table)) ⌝ }
+    requires { ⌜ (command < 18) × (i < mostFields) × (rowSize * i + rowSize ≤ length (now table)) ⌝ }
     ensures { λ r.
         ⌜ ((f : F.Field) → Cell (now (table .entry)) (rowSize * i) f
         → r ≡ passesOf number (now (s .entry)) (wantIn (rowAt command) i) f) ⌝ }
@@ -327,7 +329,7 @@ fn right(s: &[u8], command: usize, number: u32, i: usize, table: &[u32]) -> bool
 
 // The fields of a command pass the test of refusal `number`, the earlier first.
 fn each(s: &[u8], command: usize, number: u32, n: usize, table: &[u32]) -> Judged
-    requires { ⌜ (command < 18) × (n ≤ 256) × (rowSize * n ≤ length (now table)) ⌝ }
+    requires { ⌜ (command < 18) × (n ≤ mostFields) × (rowSize * n ≤ length (now table)) ⌝ }
     ensures { λ r.
         ⌜ ((fs : List F.Field) → Held (now (table .entry)) n fs
         → judged r ≡ done (eachOf (now (s .entry)) (rowAt command) number 0 fs)) ⌝ }
@@ -355,7 +357,7 @@ fn status(command: usize) -> u8
 
 // The number of a command's fields is right: in FM.2 the sixth says how many pairs follow.
 fn counted(s: &[u8], kind: usize, command: usize, n: usize, table: &[u32]) -> Judged
-    requires { ⌜ (command < 18) × (n ≤ 256) × (rowSize * n ≤ length (now table)) ⌝ }
+    requires { ⌜ (command < 18) × (n ≤ mostFields) × (rowSize * n ≤ length (now table)) ⌝ }
     ensures { λ r.
         ⌜ ((fs : List F.Field) → Held (now (table .entry)) n fs
         → judged r ≡ done (numberRight (now (s .entry)) kind (rowAt command) fs)) ⌝ }
@@ -385,7 +387,7 @@ fn counted(s: &[u8], kind: usize, command: usize, n: usize, table: &[u32]) -> Ju
 
 // The fields of a command: their number, their codes, their strings.
 fn fields(s: &[u8], kind: usize, command: usize, n: usize, table: &[u32]) -> Judged
-    requires { ⌜ (command < 18) × (n ≤ 256) × (rowSize * n ≤ length (now table)) ⌝ }
+    requires { ⌜ (command < 18) × (n ≤ mostFields) × (rowSize * n ≤ length (now table)) ⌝ }
     ensures { λ r.
         ⌜ ((fs : List F.Field) → Held (now (table .entry)) n fs
         → judged r ≡ fieldsRight (now (s .entry)) kind command fs) ⌝ }
@@ -415,7 +417,7 @@ fn less(a: usize, b: usize) -> usize
 // The command that a message is, whose type frame stands at `kind`, has code c and ends at `next`, whose status byte
 // stands at `at`, and whose rows the table has.
 fn judge(s: &[u8], kind: usize, c: usize, next: usize, at: usize, n: usize, table: &[u32]) -> Judged
-    requires { ⌜ (kind < 4294967296) × (n ≤ 256) × (rowSize * n ≤ length (now table)) ⌝ }
+    requires { ⌜ (kind < 4294967296) × (n ≤ mostFields) × (rowSize * n ≤ length (now table)) ⌝ }
     ensures { λ r.
         ⌜ ((fs : List F.Field) → Held (now (table .entry)) n fs
         → judged r ≡ commandOf (now (s .entry)) (looksAt kind c next at) fs) ⌝ }
@@ -501,7 +503,7 @@ pub fn command(message: &[u8]) -> Commanded
             if r.number != 14 {
                 return Commanded::Refused(r);
             }
-            let mut all = [0u32; 256 * ROW];
+            let mut all = [0u32; FIELDS * ROW];
             command_by(message, &mut all)
         }
     }

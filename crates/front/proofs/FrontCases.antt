@@ -13,7 +13,7 @@ use Rattle.sim0mq.specs.Answer.{fine, refused, _>>=_, partAt}
 use Rattle.sim0mq.specs.Field.{Field}
 use Rattle.sim0mq.specs.Payload.{payload, steps}
 use Rattle.sim0mq.specs.Table.{rowSize}
-use Rattle.sim0mq.specs.Header.{Header, fieldsTaken, header}
+use Rattle.sim0mq.specs.Header.{Header, mostFields, fieldsTaken, header}
 use Rattle.sim0mq.specs.Message as M
 use Rattle.sim0mq.specs.Message.{limit, enough, readingOf, messageRest, message, reading}
 use Rattle.sim0mq.proofs.Answers.{guarded, bind-fine, fine-eq}
@@ -53,10 +53,10 @@ module _ (frames : List Frame) where
       (h, refl, ap (λ (x : End). x .fields) same, ap (λ (x : End). x .next) same, refl)
   told-accepted (refused k p) n e q = absurd (let z : _≡_ {A = ℕ} 0 1 = cc in omega arith)
 
--- a header declares at most 256 fields
-header-most : (s : List ℕ) (h : Header) → header s ≡ fine h → h .fields ≤ 256
+-- a header declares no more fields than the most
+header-most : (s : List ℕ) (h : Header) → header s ≡ fine h → h .fields ≤ mostFields
 unfolding fieldsTaken
-header-most s h e = leb-true _ 256 (header-sound s h e .is .taken)
+header-most s h e = leb-true _ mostFields (header-sound s h e .is .taken)
 
 -- what stands before the payload
 module _ (lent : M.Lent) (s : List ℕ) where
@@ -114,7 +114,7 @@ module _ (lent : M.Lent) (s : List ℕ) where
 
     -- with the numbers that the code has of it
     module _ (n next : ℕ) (p : h .fields ≡ n) (q : h .next ≡ next) where
-      pub open-within : (length s ≤ limit) × (next ≤ length s) × (n ≤ 256) × (enough lent n ≡ true)
+      pub open-within : (length s ≤ limit) × (next ≤ length s) × (n ≤ mostFields) × (enough lent n ≡ true)
       open-within =
           let parts = open-parts in
           let within = header-within s h (parts .1) in

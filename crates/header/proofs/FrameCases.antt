@@ -14,7 +14,7 @@ use Rattle.sim0mq.specs.Codes.{codeKnown, countsOf, widthOf, boolean}
 use Rattle.sim0mq.specs.Mark.{marks}
 use Rattle.sim0mq.specs.Field.{counts, Head, head, headRest, booleans, booleansOf, Field, after, outline, field}
 use Rattle.sim0mq.specs.Header as H
-use Rattle.sim0mq.specs.Header.{idCodes, numberCodes, statusCodes, countCodes, among, statusTaken, fieldsTaken, magic, frame, status, declared, frameOf, headerOf, header}
+use Rattle.sim0mq.specs.Header.{idCodes, numberCodes, statusCodes, countCodes, among, statusTaken, mostFields, fieldsTaken, magic, frame, status, declared, frameOf, headerOf, header}
 use Rattle.sim0mq.proofs.Answers.{needed, needed-bind, guarded, bind-fine, fine-eq}
 use Rattle.sim0mq.proofs.Refusals.{field-within}
 use Rattle.header.specs.Frames.{NoBoolean, nthFrame, Declares, declares, declaredNumber, headerEnding, headerFrom, headerRest, framed, shown}
@@ -101,14 +101,14 @@ module _ (s : List ℕ) (at : ℕ) where
     unfolding declaredNumber declared notNegative
     declared-negative h = simp (e, le-ltb (byte s (f .first)) 128 h)
 
-    pub declared-over : (n : ℕ) → byte s (f .first) < 128 → n ≡ big s (f .first) (f .size) → 256 < n → declaredNumber s at ≡ refused 7 (f .first)
+    pub declared-over : (n : ℕ) → byte s (f .first) < 128 → n ≡ big s (f .first) (f .size) → mostFields < n → declaredNumber s at ≡ refused 7 (f .first)
     unfolding declaredNumber declared notNegative fieldsTaken
-    declared-over n h q k = simp (e, lt-ltb (byte s (f .first)) 128 h, ← q, lt-leb n 256 k)
+    declared-over n h q k = simp (e, lt-ltb (byte s (f .first)) 128 h, ← q, lt-leb n mostFields k)
 
-    pub declared-fine : (n : ℕ) → byte s (f .first) < 128 → n ≡ big s (f .first) (f .size) → n ≤ 256
+    pub declared-fine : (n : ℕ) → byte s (f .first) < 128 → n ≡ big s (f .first) (f .size) → n ≤ mostFields
         → declaredNumber s at ≡ fine (record { field = f; number = n })
     unfolding declaredNumber declared notNegative fieldsTaken
-    declared-fine n h q k = simp (e, lt-ltb (byte s (f .first)) 128 h, ← q, le-leb n 256 k)
+    declared-fine n h q k = simp (e, lt-ltb (byte s (f .first)) 128 h, ← q, le-leb n mostFields k)
 
 -- frame k
 module _ (s : List ℕ) (k at : ℕ) where

@@ -8,6 +8,7 @@ use fields::Fielded;
 use fields::outline;
 use magic::magic;
 use numbers::number;
+use sim0mq::FIELDS;
 use sim0mq::Judged;
 use sim0mq::Refusal;
 
@@ -128,7 +129,7 @@ fn declared(s: &[u8], at: usize) -> Counted
                 });
             }
             let number = number(s, first, field.size);
-            if 256 < number {
+            if FIELDS < number {
                 return Counted::Refused(Refusal {
                     number: 7,
                     place: first,

@@ -2,13 +2,14 @@
 use input::Input;
 use libc::STDERR_FILENO;
 use libc::STDOUT_FILENO;
+use sim0mq::FIELDS;
 use sim0mq::LIMIT;
 use sim0mq::ROW;
 
 // Writes what reading answers of `message`, as text, to standard output; a line to standard error where that cannot be
 // written.
 fn print(message: &[u8]) {
-    let mut table = [0u32; 256 * ROW];
+    let mut table = [0u32; FIELDS * ROW];
     let answer = reading::read(message, &mut table);
     let said = answer.said;
     let mut text = [0u8; 16384];

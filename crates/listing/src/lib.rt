@@ -1,8 +1,8 @@
 // What reading answered, as text: the lines that document 01 shows under "Examples".
 //
 // The text is put into a lent buffer by the calls of `pieces`. The longest text has a first line of at most 72 bytes
-// and 256 rows of at most 37 (no number of a row is above the most bytes of a message), so 16,384 bytes are always
-// enough.
+// and a row of at most 37 for each field (no number of a row is above the most bytes of a message), so 16,384 bytes are
+// always enough.
 use pieces::number;
 use pieces::put;
 use reading::Found;

@@ -13,7 +13,7 @@ use borrow.Author.Tests.{le-leb, lt-leb, lt-ltb, le-ltb, leb-true, ne-eqb}
 use Rattle.sim0mq.specs.Answer.{Answer, fine, refused, _>>=_, _>>_, guard, lengthOf}
 use Rattle.sim0mq.specs.Codes.{widthOf}
 use Rattle.sim0mq.specs.Field.{Field, after}
-use Rattle.sim0mq.specs.Header.{idCodes, countCodes, among, statusTaken, fieldsTaken, frame}
+use Rattle.sim0mq.specs.Header.{idCodes, countCodes, among, statusTaken, mostFields, fieldsTaken, frame}
 use Rattle.sim0mq.specs.Message.{limit}
 use Rattle.sim0mq.specs.Allowed.{frame0}
 use Rattle.sim0mq.proofs.Answers.{not-fine, fine-eq, bind-fine, guarded}
@@ -66,11 +66,11 @@ count-untyped : (c : ℕ) → 2 < c → among c countCodes ≡ false
 unfolding among
 count-untyped c h = simp (ne-eqb c 0 (λ e. omega arith), ne-eqb c 1 (λ e. omega arith), ne-eqb c 2 (λ e. omega arith))
 
-count-held : (c fields : ℕ) → c ≤ 2 → fields ≤ 256 → (c ≡ 0 → fields ≤ 127) → (fieldsTaken fields && holds c fields) ≡ true
+count-held : (c fields : ℕ) → c ≤ 2 → fields ≤ mostFields → (c ≡ 0 → fields ≤ 127) → (fieldsTaken fields && holds c fields) ≡ true
 unfolding fieldsTaken holds widthOf
-count-held zero fields h k z = let few = z refl in simp (le-leb fields 256 k, lt-ltb fields 128 (omega arith))
-count-held (suc zero) fields h k z = simp (le-leb fields 256 k, lt-ltb fields 32768 (omega arith))
-count-held (suc (suc zero)) fields h k z = simp (le-leb fields 256 k, lt-ltb fields 2147483648 (omega arith))
+count-held zero fields h k z = let few = z refl in simp (le-leb fields mostFields k, lt-ltb fields 128 (omega arith))
+count-held (suc zero) fields h k z = simp (le-leb fields mostFields k, lt-ltb fields 32768 (omega arith))
+count-held (suc (suc zero)) fields h k z = simp (le-leb fields mostFields k, lt-ltb fields 2147483648 (omega arith))
 count-held (suc (suc (suc c))) fields h k z = absurd (omega arith)
 
 -- the numbers of a header whose ids have n bytes
@@ -88,15 +88,15 @@ module _ (n status c fields room : ℕ) where
     unfolding numbersJudged
     numbers-type h = simp (status-taken status low high, count-untyped c h)
 
-    pub numbers-many : c ≤ 2 → 256 < fields → numbersJudged n status c fields room ≡ refused 7 0
+    pub numbers-many : c ≤ 2 → mostFields < fields → numbersJudged n status c fields room ≡ refused 7 0
     unfolding numbersJudged fieldsTaken
-    numbers-many h k = simp (status-taken status low high, count-typed c h, lt-leb fields 256 k)
+    numbers-many h k = simp (status-taken status low high, count-typed c h, lt-leb fields mostFields k)
 
-    pub numbers-above : c ≡ 0 → 127 < fields → fields ≤ 256 → numbersJudged n status c fields room ≡ refused 7 0
+    pub numbers-above : c ≡ 0 → 127 < fields → fields ≤ mostFields → numbersJudged n status c fields room ≡ refused 7 0
     unfolding numbersJudged fieldsTaken holds widthOf among
-    numbers-above e h k = simp (status-taken status low high, e, le-leb fields 256 k, le-ltb fields 128 h)
+    numbers-above e h k = simp (status-taken status low high, e, le-leb fields mostFields k, le-ltb fields 128 h)
 
-    module _ (front : ℕ) (typed : c ≤ 2) (few : fields ≤ 256) (held : c ≡ 0 → fields ≤ 127) (f : front ≡ 22 + widthOf c) where
+    module _ (front : ℕ) (typed : c ≤ 2) (few : fields ≤ mostFields) (held : c ≡ 0 → fields ≤ 127) (f : front ≡ 22 + widthOf c) where
       numbers-rest : numbersJudged n status c fields room
           ≡ (guard (leb (front + n) limit) 8 0 >> (guard (leb (front + n) room) 14 0 >> fine (front + n)))
       unfolding numbersJudged

@@ -13,6 +13,7 @@ use header::id;
 use numbers::wide;
 use puts::bits;
 use puts::put_number;
+use sim0mq::FIELDS;
 use sim0mq::Judged;
 use sim0mq::LIMIT;
 use tables::width;
@@ -84,7 +85,7 @@ fn judge_numbers(n: usize, status: u8, code: u8, fields: usize, room: usize) -> 
     if 2 < code {
         return sim0mq::refuse(4, 0);
     }
-    if 256 < fields {
+    if FIELDS < fields {
         return sim0mq::refuse(7, 0);
     }
     if code == 0 {

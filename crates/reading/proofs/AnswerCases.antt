@@ -12,7 +12,7 @@ use Rattle.sim0mq.specs.Answer.{fine, refused, partAt}
 use Rattle.sim0mq.specs.Field.{Field}
 use Rattle.sim0mq.specs.Payload.{payload, moved, steps}
 use Rattle.sim0mq.specs.Table.{row, rows, rowSize, stored}
-use Rattle.sim0mq.specs.Header.{Header, header}
+use Rattle.sim0mq.specs.Header.{Header, mostFields, header}
 use Rattle.sim0mq.specs.Message as M
 use Rattle.sim0mq.specs.Message.{limit, enough, readingOf, stepsOf, reading, tableAfter}
 use Rattle.sim0mq.specs.Demand2.{cutFrames}
@@ -65,7 +65,7 @@ module _ (lent : M.Lent) (s : List ℕ) where
 
     -- with the numbers that the code has of it
     module _ (n next : ℕ) (p : h .fields ≡ n) (q : h .next ≡ next) where
-      pub open-fillable : (r : ℕ) → lent ≡ M.table r → Fillable s next n (256 * rowSize) r
+      pub open-fillable : (r : ℕ) → lent ≡ M.table r → Fillable s next n (mostFields * rowSize) r
       unfolding enough rowSize
       open-fillable r e =
           let w = open-within lent s h a n next p q in

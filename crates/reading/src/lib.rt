@@ -2,6 +2,7 @@
 ghost use mathlib.Core.Path.{_≡_};
 ghost use Prim.Native.Nat.{_+_, _*_, _≤_};
 ghost use lib.ListN.{length, take};
+ghost use Rattle.sim0mq.specs.Header.{mostFields};
 ghost use Rattle.sim0mq.specs.Table.{rowSize, stored};
 ghost use Rattle.sim0mq.specs.Views.{judged};
 ghost use Rattle.numbers.specs.Numbers.{Below};
@@ -14,6 +15,7 @@ use front::opened;
 use header::Frame;
 use header::Said;
 use payload::payload;
+use sim0mq::FIELDS;
 use sim0mq::Judged;
 use sim0mq::ROW;
 use sim0mq::Refusal;
@@ -79,7 +81,7 @@ fn filled_by(message: &[u8], next: usize, n: usize, kept: &mut [u32], table: &mu
 
 // Judges the payload of n fields that begins at `next`, and stores its rows in the table once it is accepted.
 fn fill(message: &[u8], next: usize, n: usize, table: &mut [u32]) -> Judged
-    requires { ⌜ Fillable (now message) next n (256 * rowSize) (length (now table)) ⌝ }
+    requires { ⌜ Fillable (now message) next n (mostFields * rowSize) (length (now table)) ⌝ }
     ensures answer { λ r. ⌜
         (judged r ≡ payloadSteps (now (message .entry)) next n)
         × Below (length (now (message .entry)) + 1) r
@@ -90,7 +92,7 @@ fn fill(message: &[u8], next: usize, n: usize, table: &mut [u32]) -> Judged
         let mut few = [0u32; 8 * ROW];
         return filled_by(message, next, n, &mut few, table);
     }
-    let mut all = [0u32; 256 * ROW];
+    let mut all = [0u32; FIELDS * ROW];
     filled_by(message, next, n, &mut all, table)
 }
 

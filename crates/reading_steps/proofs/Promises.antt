@@ -10,12 +10,12 @@ use lib.ListN.{length}
 use lib.Dec.{ltb, eqb}
 use borrow.Author.Tests.{leb-true, ltb-true, ltb-false, le-ltb, eqb-true, eqb-false}
 use Rattle.sim0mq.specs.Field.{Field}
-use Rattle.sim0mq.specs.Header.{fieldsTaken}
+use Rattle.sim0mq.specs.Header.{mostFields, fieldsTaken}
 use Rattle.sim0mq.specs.Message.{limit, noTable, enough, Reading, stepsOf, reading}
 use Rattle.sim0mq.specs.Allowed.{Each, fieldBytes, headerBytes, messageBytes}
 use Rattle.sim0mq.specs.Demand2.{marksIn}
 use Rattle.sim0mq.proofs.MessageLaws.{cutOf, message-complete}
-use Rattle.reading_steps.specs.Ceiling.{ceiling, leastHeader, columnsHead, longMessage, mostFields, mostSteps}
+use Rattle.reading_steps.specs.Ceiling.{ceiling, leastHeader, columnsHead, longMessage, mostSteps}
 use Rattle.reading_steps.specs.Promises.{Steps-have-a-ceiling, Byte-fields-reach-the-ceiling, Length-bounds-the-steps, Slowest, Long-messages-reach-it, Worst-case}
 use Rattle.reading_steps.proofs.SizeLaws.{cut-steps, payload-long, few-or-seven, byte-fields, codes-back, header-long, measured, payload-bytes}
 use Rattle.reading_steps.proofs.SlowestLaws.{slowest, slowest-is, headerSize, slowest-long, slowest-bytes, slowest-steps}

@@ -2,6 +2,7 @@
 use Prim.Native.Nat.{ℕ, _+_, _-_, _*_, _/_}
 use mathlib.Core.Bool.{cond}
 use lib.Dec.{ltb}
+use Rattle.sim0mq.specs.Header.{mostFields}
 
 -- 8 steps, and one for every two bytes of a payload of n bytes, rounded down.
 abbrev pub ceiling : ℕ → ℕ
@@ -11,10 +12,6 @@ ceiling n = 8 + n / 2
 -- fields of 2 (01, "The eight header frames").
 abbrev pub leastHeader : ℕ
 leastHeader = 35
-
--- The most fields of a message (01, frame 7).
-abbrev pub mostFields : ℕ
-mostFields = 256
 
 -- A field has more than one mark only where it has one per column: its code, its rows and its columns then take nine
 -- bytes for one step, seven more than two (01, "Payload fields", codes 31 and 32).

@@ -5,6 +5,7 @@ use mathlib.Core.Bool.{cond}
 use mathlib.Core.List.{List, [], _∷_}
 use lib.Dec.{eqb}
 use Rattle.sim0mq.specs.Answer.{Answer, fine, refused}
+use Rattle.sim0mq.specs.Message.{limit}
 
 -- The number that the trailer states, the bytes of a length in an entry of the index, and the most bytes that a message
 -- has.
@@ -17,9 +18,9 @@ pub record Edition : Type 0 where
 abbrev pub first : Edition
 first = record { number = 1; lengthBytes = 2; most = 32768 }
 
--- Edition 2 (Ticket 9): a length has four.
+-- Edition 2 (Ticket 9): a length has four; the most bytes are those of a message.
 abbrev pub second : Edition
-second = record { number = 2; lengthBytes = 4; most = 65536 }
+second = record { number = 2; lengthBytes = 4; most = limit }
 
 -- The one that is written.
 abbrev pub newest : Edition

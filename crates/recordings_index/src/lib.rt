@@ -5,8 +5,11 @@ ghost use Rattle.recordings_format.specs.Edition.{editionOf};
 ghost use Rattle.recordings_format.specs.Judge.{trailerFrom, trailer, index as indexOf};
 ghost use Rattle.recordings_index.specs.Index.{knownAs, trailedAs, summed, Trailing, tiled};
 use numbers::number;
+use recordings_format::LENGTH_BYTES;
 use recordings_format::MOST;
+use recordings_format::NEWEST;
 use recordings_format::TRAILER;
+use sim0mq::LIMIT;
 
 // An edition: its number, the bytes of a length in its index, and the most bytes of a message.
 pub struct Edition {
@@ -31,11 +34,11 @@ fn row_of(n: usize) -> Known
             most: 32768,
         });
     }
-    if n == 2 {
+    if n == NEWEST {
         return Known::Row(Edition {
-            number: 2,
-            wide: 4,
-            most: 65536,
+            number: NEWEST,
+            wide: LENGTH_BYTES,
+            most: LIMIT,
         });
     }
     Known::Unknown

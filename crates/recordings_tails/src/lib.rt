@@ -10,17 +10,13 @@ ghost use Rattle.recordings_format.specs.Text.{entryText, indexText, trailerTex
 ghost use Rattle.recordings_tails.specs.Tails.{come, Indexable, tailing, lengthAfter};
 use numbers::wide32;
 use puts::put_big;
+use recordings_format::ENTRY;
+use recordings_format::LENGTH_BYTES;
 use recordings_format::MOST;
+use recordings_format::NEWEST;
 use recordings_format::TRAILER;
 use sim0mq::Judged;
 use sim0mq::LIMIT;
-
-// The edition that is written, and the bytes that a length and an entry have in it.
-const EDITION: u64 = 2;
-
-const LENGTH_BYTES: usize = 4;
-
-const ENTRY: usize = 4 + LENGTH_BYTES;
 
 // Whether none of these lengths is more than a message has, and they come to `at`.
 fn come_to(lengths: &[u32], at: usize) -> bool
@@ -75,7 +71,7 @@ fn put_trailer(out: &mut [u8], p: usize, place: usize, n: usize)
 {
     put_big(out, p, 4, place as u64);
     put_big(out, p + 4, 4, n as u64);
-    put_big(out, p + 8, 2, EDITION);
+    put_big(out, p + 8, 2, NEWEST as u64);
 }
 
 // Puts the index and the trailer of messages of these lengths, which end at `at`, in `out` from there on: the whole

@@ -6,13 +6,15 @@ use lines::find;
 use lines::last;
 use lines::part;
 use lines::starts;
+use sim0mq::FIELDS;
+use sim0mq::ROW;
 ghost use mathlib.Core.Path.{_≡_};
 ghost use mathlib.Core.Bool.{false};
 ghost use Prim.Native.Nat.{_+_, _≤_, min};
 ghost use lib.ListN.{length};
 
 // How many numbers a table has at most, and has where a case does not say.
-const NUMBERS: usize = 1536;
+const NUMBERS: usize = FIELDS * ROW;
 
 // What has been run so far, and the case that is being read.
 pub struct Run {

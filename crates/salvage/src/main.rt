@@ -3,6 +3,9 @@
 use input::Input;
 use libc::STDERR_FILENO;
 use libc::STDOUT_FILENO;
+use recordings_format::ENTRY;
+use recordings_format::MOST;
+use recordings_format::TRAILER;
 use recordings_fronts::Stop;
 use recordings_salvaging::Report;
 use recordings_salvaging::Salvaged;
@@ -11,8 +14,8 @@ use sim0mq::Refusal;
 // How many bytes a file has at most: three and a half mebibytes, since it and its recording stand on the stack.
 const FILE: usize = 3670016;
 
-// How many bytes the tail of a recording has at most: 4,096 entries and the trailer.
-const TAIL: usize = 32778;
+// How many bytes the tail of a recording has at most: its entries and the trailer.
+const TAIL: usize = MOST * ENTRY + TRAILER;
 
 // Writes a text to standard error.
 fn say(text: &[u8]) {

@@ -1,5 +1,5 @@
 -- The starred examples of 01, "Examples", in its order, as one table; and that the definitions answer each of them so.
-use Prim.Native.Nat.{ℕ}
+use Prim.Native.Nat.{ℕ, _*_}
 use mathlib.Core.Path.{_≡_, refl}
 use mathlib.Core.List.{List, [], _∷_, _++_, map}
 use lib.ListN.{take, set}
@@ -9,7 +9,7 @@ use Rattle.sim0mq.specs.Mark.{kindOf, currencyTaken, displayTaken, curre
 use Rattle.sim0mq.specs.Field.{count, counts, markCount, headRest, head, booleans, booleansOf, after, outline, field}
 use Rattle.sim0mq.specs.Payload.{payloadFrom, payload, moved, steps}
 use Rattle.sim0mq.specs.Table.{row, rowSize, rows}
-use Rattle.sim0mq.specs.Header.{among, statusTaken, fieldsTaken, literal, digit, magic, frame, status, declared, header}
+use Rattle.sim0mq.specs.Header.{mostFields, among, statusTaken, fieldsTaken, literal, digit, magic, frame, status, declared, header}
 use Rattle.sim0mq.specs.Message.{limit, table, enough, Reading, stepsOf, messageRest, message, reading}
 use Rattle.sim0mq.specs.Blank.{zeroed, blanked, blanking}
 
@@ -50,9 +50,10 @@ abbrev pub blankOutcome : Answer (List ℕ) → Outcome
 blankOutcome (fine c) = copy c
 blankOutcome (refused k p) = refusal k p
 
--- What is lent is long enough for every message: a table for 256 fields (02, Ticket 4), and as many bytes as one has.
+-- What is lent is long enough for every message: a table for the most fields (02, Ticket 4), and as many bytes as one
+-- has.
 unfoldable pub outcome : Deed → Outcome
-outcome (read s) = readOutcome (reading (table 1536) s)
+outcome (read s) = readOutcome (reading (table (mostFields * rowSize)) s)
 outcome (blank s) = blankOutcome (blanking limit s)
 
 pub record Example : Type 0 where

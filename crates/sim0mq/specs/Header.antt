@@ -28,9 +28,13 @@ countCodes = 0 ∷ 1 ∷ 2 ∷ []
 unfoldable pub statusTaken : ℕ → Bool
 statusTaken x = leb 1 x && leb x 3
 
+-- The most fields of a message (01, frame 7).
+abbrev pub mostFields : ℕ
+mostFields = 256
+
 -- May a message have n fields?
 unfoldable pub fieldsTaken : ℕ → Bool
-fieldsTaken n = leb n 256
+fieldsTaken n = leb n mostFields
 
 -- These bytes stand from `at` on, each there (1) and the right one (2). The answer is the place after them.
 unfoldable pub literal : List ℕ → List ℕ → ℕ → Answer ℕ

@@ -7,6 +7,9 @@ ghost use Rattle.sim0mq.specs.Views.{judged};
 // The most bytes that a message has.
 pub const LIMIT: usize = 65536;
 
+// The most fields that a message has.
+pub const FIELDS: usize = 256;
+
 // How many numbers the field table has for each field.
 pub const ROW: usize = 6;
 

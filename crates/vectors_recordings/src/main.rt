@@ -9,6 +9,7 @@ use lines::part;
 use lines::spaced;
 use lines::starts;
 use recordings::Asked;
+use recordings_format::MOST;
 use recordings_fronts::Stop;
 use recordings_salvaging::Report;
 use recordings_salvaging::Salvaged;
@@ -16,16 +17,17 @@ use recordings_salvaging::salvage;
 use recordings_writing::Recorded;
 use recordings_writing::Recorder;
 use sim0mq::Judged;
+use sim0mq::LIMIT;
 use sim0mq::Refusal;
 
 // How many bytes the buffer has: 4,096 messages of 35 bytes, their index, the trailer, and one message more.
 const BUFFER: usize = 176173;
 
 // How many zero bytes can be added as a message: one more than the longest has.
-const LONG: usize = 65537;
+const LONG: usize = LIMIT + 1;
 
 // How often a message can be added by one line: once more than a recording has messages.
-const TIMES: usize = 4097;
+const TIMES: usize = MOST + 1;
 
 // How many numbers a table has at most.
 const SLOTS: usize = 8;
