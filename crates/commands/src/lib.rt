@@ -16,8 +16,10 @@ use numbers::wide;
 use numbers::wide32;
 use reading::Reading;
 use reading::read;
+use sim0mq::CHANGE;
 use sim0mq::FIELDS;
 use sim0mq::Judged;
+use sim0mq::NEW;
 use sim0mq::ROW;
 use sim0mq::Refusal;
 use sim0mq::refuse;
@@ -350,9 +352,9 @@ fn status(command: usize) -> u8
     ensures { λ r. ⌜ r ≡ rowAt command .status ⌝ }
 {
     if command == SIM_RESET {
-        return 2;
+        return CHANGE;
     }
-    1
+    NEW
 }
 
 // The number of a command's fields is right: in FM.2 the sixth says how many pairs follow.

@@ -8,8 +8,10 @@ use fields::Fielded;
 use fields::outline;
 use magic::magic;
 use numbers::number;
+use sim0mq::DELETE;
 use sim0mq::FIELDS;
 use sim0mq::Judged;
+use sim0mq::NEW;
 use sim0mq::Refusal;
 
 // A frame's place, which is that of its first byte, and its type code.
@@ -86,13 +88,13 @@ fn status(s: &[u8], at: usize) -> Fielded
         Fielded::Accepted(f) => {
             let first = f.first;
             let x = s[first];
-            if x < 1 {
+            if x < NEW {
                 return Fielded::Refused(Refusal {
                     number: 6,
                     place: first,
                 });
             }
-            if 3 < x {
+            if DELETE < x {
                 return Fielded::Refused(Refusal {
                     number: 6,
                     place: first,

@@ -1,15 +1,20 @@
 -- How the judges of frame 0 answer, case by case, in the words of the code's tests.
 use Prim.Native.Nat.{ℕ, _+_, _≤_, _<_}
 use mathlib.Core.Path.{_≡_, _∙_}
-use mathlib.Core.List.{List, _∷_}
+use mathlib.Core.List.{List, [], _∷_}
 use native.Mathlib.Omega.{arith}
 use native.Mathlib.Numerals.{add-one}
-use lib.ListN.{length, getD, drop, drop-of-length-le}
+use lib.ListN.{length, getD, drop, drop-of-length-le, List·getD-append}
 use lib.Seq.{drop-cons}
 use borrow.Author.Tests.{le-leb, lt-leb, eq-eqb, ne-eqb}
 use Rattle.sim0mq.specs.Answer.{fine, refused, byte}
 use Rattle.sim0mq.specs.Header.{magicBytes, literal, digit, magic}
+use Rattle.sim0mq.specs.Allowed.{frame0}
 use Rattle.magic.specs.Magic.{editionEnd}
+
+-- frame 0 begins with them
+pub frame-begins : (i : ℕ) → i < 8 → getD frame0 i 0 ≡ getD magicBytes i 0
+frame-begins i h = List·getD-append magicBytes (48 ∷ 49 ∷ []) 0 i h
 
 -- frame 0, byte by byte: the bytes end, a wrong byte, the next byte, all bytes passed
 module _ (s bs : List ℕ) (i : ℕ) where

@@ -6,7 +6,8 @@ ghost use Rattle.magic.specs.Magic.{literalEnd, editionEnd};
 use numbers::wide;
 use sim0mq::Judged;
 
-const MAGIC: [u8; 8] = [9, 0, 0, 0, 5, 83, 73, 77];
+// Its bytes: 9 0 0 0 5 S I M, and the digits of the edition, 0 and 1 in ASCII.
+pub const FRAME_0: [u8; 10] = [9, 0, 0, 0, 5, 83, 73, 77, 48, 49];
 
 // Frame 0 before its digits: the place after it.
 fn literal(s: &[u8]) -> Judged
@@ -17,7 +18,7 @@ fn literal(s: &[u8]) -> Judged
         if s.len() <= i {
             return sim0mq::refuse(1, s.len());
         }
-        if s[i] == MAGIC[i] {
+        if s[i] == FRAME_0[i] {
             i += 1;
         } else {
             return sim0mq::refuse(2, i);
@@ -59,14 +60,14 @@ pub fn magic(s: &[u8]) -> Judged
     }
 }
 
-// Frame 0's end where its digits are 0 and 1 in ASCII.
+// Frame 0's end where these are its digits.
 fn edition(a: usize, b: usize) -> Judged
     ensures { λ r. ⌜ judged r ≡ editionEnd a b ⌝ }
 {
-    if a != 48 {
+    if a != wide(FRAME_0[8]) {
         return sim0mq::refuse(3, 8);
     }
-    if b != 49 {
+    if b != wide(FRAME_0[9]) {
         return sim0mq::refuse(3, 8);
     }
     Judged::Accepted(10)

@@ -10,15 +10,16 @@ ghost use Rattle.opening.specs.Judges.{numbersJudged, openingJudged};
 use buffers::put;
 use fields::Fielded;
 use header::id;
+use magic::FRAME_0;
 use numbers::wide;
 use puts::bits;
 use puts::put_number;
+use sim0mq::DELETE;
 use sim0mq::FIELDS;
 use sim0mq::Judged;
 use sim0mq::LIMIT;
+use sim0mq::NEW;
 use tables::width;
-
-const FRAME_0: [u8; 10] = [9, 0, 0, 0, 5, 83, 73, 77, 48, 49];
 
 // The header of a message, judged and put at the front of `out`: its length. The ids are four encoded frames, and the
 // declared number of fields is a number of type `code`. Refused, `out` is as it was.
@@ -76,10 +77,10 @@ fn id_frames(s: &[u8]) -> Judged
 fn judge_numbers(n: usize, status: u8, code: u8, fields: usize, room: usize) -> Judged
     ensures { λ r. ⌜ judged r ≡ numbersJudged n status code fields room ⌝ }
 {
-    if status < 1 {
+    if status < NEW {
         return sim0mq::refuse(6, 0);
     }
-    if 3 < status {
+    if DELETE < status {
         return sim0mq::refuse(6, 0);
     }
     if 2 < code {

@@ -10,6 +10,13 @@ pub const LIMIT: usize = 65536;
 // The most fields that a message has.
 pub const FIELDS: usize = 256;
 
+// The statuses of a message: new, change and delete.
+pub const NEW: u8 = 1;
+
+pub const CHANGE: u8 = 2;
+
+pub const DELETE: u8 = 3;
+
 // How many numbers the field table has for each field.
 pub const ROW: usize = 6;
 

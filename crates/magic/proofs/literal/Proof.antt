@@ -6,7 +6,7 @@ use native.Mathlib.Omega.{arith}
 use Prim.Native.Nat.{_≤_, _-_}
 use lib.ListN.{drop}
 use Rattle.sim0mq.specs.Header.{literal, magicBytes}
-use Rattle.magic.proofs.MagicCases.{literal-short, literal-wrong, literal-next, literal-done}
+use Rattle.magic.proofs.MagicCases.{frame-begins, literal-short, literal-wrong, literal-next, literal-done}
 use Rattle.magic.proofs.literal.Statement.{statement}
 use Rattle.magic.proofs.literal.Tie as tie
 
@@ -38,13 +38,18 @@ loop-less : tie.Need-loop-less Inv-loop μ-loop
 loop-less c = search needs
 
 loop-again : tie.Need-loop-again Inv-loop μ-loop
-loop-again c = (c .before .before .before .before .loop .inv .0 ∙ literal-next _ magicBytes (c .before .before .before .before .loop .i) (omega arith) (omega arith) (c .if2 .taken), omega arith)
+loop-again c = (
+  c .before .before .before .before .loop .inv .0 ∙ literal-next _ magicBytes (c .before .before .before .before .loop .i) (omega arith) (omega arith)
+      (c .if2 .taken ∙ frame-begins (c .before .before .before .before .loop .i) (omega arith)),
+  omega arith,
+)
 
 refuse-requires-2 : tie.Need-refuse-requires-2 Inv-loop μ-loop
 refuse-requires-2 c κs = search needs
 
 returns-2 : tie.Need-returns-2 Inv-loop μ-loop
-returns-2 c = c .refuse2 .ensures ∙ sym (c .before .before .before .before .before .loop .inv .0 ∙ literal-wrong _ magicBytes (c .before .before .before .before .before .loop .i) (omega arith) (omega arith) (c .before .if2 .left))
+returns-2 c = c .refuse2 .ensures ∙ sym (c .before .before .before .before .before .loop .inv .0 ∙ literal-wrong _ magicBytes (c .before .before .before .before .before .loop .i) (omega arith) (omega arith)
+    (λ e. c .before .if2 .left (e ∙ sym (frame-begins (c .before .before .before .before .before .loop .i) (omega arith)))))
 
 returns-3 : tie.Need-returns-3 Inv-loop μ-loop
 returns-3 c =
