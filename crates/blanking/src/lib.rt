@@ -16,6 +16,7 @@ use front::Lent;
 use front::opened;
 use header::Said;
 use numbers::wide32;
+use payload::FEW;
 use payload::payload;
 use sim0mq::FIELDS;
 use sim0mq::Judged;
@@ -96,8 +97,8 @@ fn copied(message: &[u8], next: usize, n: usize, out: &mut [u8]) -> Judged
         ≡ outputAfter (now (out .entry)) (copying (length (now (out .entry))) (now (message .entry)) next n)
         ⌝ }
 {
-    if n <= 8 {
-        let mut few = [0u32; 8 * ROW];
+    if n <= FEW {
+        let mut few = [0u32; FEW * ROW];
         return copied_by(message, next, n, &mut few, out);
     }
     let mut all = [0u32; FIELDS * ROW];

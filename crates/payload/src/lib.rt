@@ -10,6 +10,9 @@ use parts::part;
 use sim0mq::Judged;
 use sim0mq::Refusal;
 
+// A caller keeps the rows of up to so many fields in a small array, since an array is cleared when it is made.
+pub const FEW: usize = 8;
+
 // The payload of n fields that begins at `next` of the message: its steps, one for each field and each mark, and no
 // more than the message's bytes; or the refusal. The rows of the fields from field k on are kept, as far as there is
 // room, up to the first fault.

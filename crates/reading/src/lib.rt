@@ -14,6 +14,7 @@ use front::Lent;
 use front::opened;
 use header::Frame;
 use header::Said;
+use payload::FEW;
 use payload::payload;
 use sim0mq::FIELDS;
 use sim0mq::Judged;
@@ -88,8 +89,8 @@ fn fill(message: &[u8], next: usize, n: usize, table: &mut [u32]) -> Judged
         ⌝ }
     ensures stored { λ _. ⌜ now (table .exit) ≡ filled (now (message .entry)) next n (now (table .entry)) ⌝ }
 {
-    if n <= 8 {
-        let mut few = [0u32; 8 * ROW];
+    if n <= FEW {
+        let mut few = [0u32; FEW * ROW];
         return filled_by(message, next, n, &mut few, table);
     }
     let mut all = [0u32; FIELDS * ROW];
