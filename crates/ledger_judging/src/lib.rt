@@ -14,6 +14,8 @@ use ledger_decks::DECK_HEADS;
 use ledger_decks::DECKS;
 use ledger_decks::Deed;
 use numbers::number;
+use sim0mq::CHANGE;
+use sim0mq::NEW;
 use sim0mq::Refusal;
 
 // What the ledger says to a message: what it does; or the refusal.
@@ -142,10 +144,10 @@ fn deed_of(status: usize, heads: [u16; DECKS], s: &[u8], f: Field) -> Ordered
         ordered r ≡ deedOf status heads (now (s .entry)) (seen f) (following (now (s .entry)) (fine (seen f)))
         ⌝ }
 {
-    if status == 1 {
+    if status == NEW as usize {
         return join(heads, s, f);
     }
-    if status == 2 {
+    if status == CHANGE as usize {
         return match field_after(s, f) {
             Fielded::Refused(r) => refuse(r.number, r.place),
             Fielded::Accepted(g) => move_by(heads, s, f, g),
@@ -168,7 +170,7 @@ fn deed_for(status: usize, heads: [u16; DECKS], s: &[u8], count: usize) -> Order
 fn fields_for(status: usize) -> usize
     ensures { λ r. ⌜ r ≡ fieldsFor status ⌝ }
 {
-    if status == 2 {
+    if status == CHANGE as usize {
         return 2;
     }
     1

@@ -7,11 +7,17 @@ use borrow.Author.Needs.{needs}
 use Rattle.ledger_judging.proofs.deed_of.Statement.{statement}
 use Rattle.ledger_judging.proofs.deed_of.Tie as tie
 
+cast-if1 : tie.Need-cast-if1
+cast-if1 c = search needs
+
 join-requires : tie.Need-join-requires
 join-requires c κs = search needs
 
 returns : tie.Need-returns
 returns c = c .join .ensures ∙ deed-new _ _ _ _ _ (c .before .if1 .taken)
+
+cast-if2 : tie.Need-cast-if2
+cast-if2 c = search needs
 
 field-after-requires : tie.Need-field-after-requires
 field-after-requires c κs = search needs
@@ -52,8 +58,10 @@ pub deed-of-spec : {M : Type 1} → statement M
 deed-of-spec =
     tie.close
     (tie.spec
+    cast-if1
     join-requires
     returns
+    cast-if2
     field-after-requires
     enum-known-r
     refuse-requires
