@@ -184,16 +184,16 @@ Determines {K} {A} {Z} {E} contract seen =
     (κs : K) (a : A κs) (z z′ : Z κs) (e e′ : E κs) → contract κs a z e → contract κs a z′ e′ → seen κs z e ≡ seen κs z′ e′
 
 -- It does so where it equates a view of what is seen, which tells all of it apart, with a definition of the arguments.
-pub determined : {K : Type 0} {A Z E X Y : K → Type 0} (contract : (κs : K) → A κs → Z κs → E κs → Type 0) (seen : (κs : K) → Z κs → E κs → X κs)
+pub determined : {K : Type 0} {A Z E X Y : K → Type 0} {contract : (κs : K) → A κs → Z κs → E κs → Type 0} {seen : (κs : K) → Z κs → E κs → X κs}
     (view : (κs : K) → X κs → Y κs) → ((κs : K) (x y : X κs) → view κs x ≡ view κs y → x ≡ y) → (means : (κs : K) → A κs → Y κs)
     → ((κs : K) (a : A κs) (z : Z κs) (e : E κs) → contract κs a z e → view κs (seen κs z e) ≡ means κs a) → Determines contract seen
-determined contract seen view apart means told κs a z z′ e e′ p p′ = apart κs _ _ (told κs a z e p ∙ sym (told κs a z′ e′ p′))
+determined view apart means told κs a z z′ e e′ p p′ = apart κs _ _ (told κs a z e p ∙ sym (told κs a z′ e′ p′))
 
 -- Most contracts equate the thing itself.
-pub equated : {K : Type 0} {A Z E X : K → Type 0} (contract : (κs : K) → A κs → Z κs → E κs → Type 0) (seen : (κs : K) → Z κs → E κs → X κs)
+pub equated : {K : Type 0} {A Z E X : K → Type 0} {contract : (κs : K) → A κs → Z κs → E κs → Type 0} {seen : (κs : K) → Z κs → E κs → X κs}
     (means : (κs : K) → A κs → X κs)
     → ((κs : K) (a : A κs) (z : Z κs) (e : E κs) → contract κs a z e → seen κs z e ≡ means κs a) → Determines contract seen
-equated contract seen means told = determined contract seen (λ κs x. x) (λ κs x y q. q) means told
+equated {contract = contract} {seen = seen} means told = determined {contract = contract} {seen = seen} (λ κs x. x) (λ κs x y q. q) means told
 
 -- The views of answers tell them apart: two refusals of one number at one place are one.
 same-refusal : {A : Type 0} (r q : Refusal) → _≡_ {A = Answer A} (refused (r .number) (r .place)) (refused (q .number) (q .place)) → r ≡ q
@@ -314,542 +314,537 @@ seen-apart x y e = sym (found-again x) ∙ ap again e ∙ found-again y
 
 -- The calls of crate sim0mq.
 pub sim0mq-refuse-result : Determines sim0mq-refuse.Post (λ κs z e. z)
-sim0mq-refuse-result = determined sim0mq-refuse.Post (λ κs z e. z) (λ κs. judged) (λ κs. judged-apart) _ (λ κs a z e p. p)
+sim0mq-refuse-result = determined (λ κs. judged) (λ κs. judged-apart) _ (λ κs a z e p. p)
 
 -- The calls of crate tables.
 pub counts-result : Determines counts.Post (λ κs z e. z)
-counts-result = equated counts.Post (λ κs z e. z) _ (λ κs a z e p. p)
+counts-result = equated _ (λ κs a z e p. p)
 
 pub marking-result : Determines marking.Post (λ κs z e. z)
-marking-result = equated marking.Post (λ κs z e. z) _ (λ κs a z e p. p)
+marking-result = equated _ (λ κs a z e p. p)
 
 pub width-result : Determines width.Post (λ κs z e. z)
-width-result = equated width.Post (λ κs z e. z) _ (λ κs a z e p. p)
+width-result = equated _ (λ κs a z e p. p)
 
 pub last-result : Determines last.Post (λ κs z e. z)
-last-result = equated last.Post (λ κs z e. z) _ (λ κs a z e p. p)
+last-result = equated _ (λ κs a z e p. p)
 
 pub lasts-result : Determines lasts.Post (λ κs z e. z)
-lasts-result = equated lasts.Post (λ κs z e. z) _ (λ κs a z e p. p)
+lasts-result = equated _ (λ κs a z e p. p)
 
 pub per-result : Determines per.Post (λ κs z e. z)
-per-result = equated per.Post (λ κs z e. z) _ (λ κs a z e p. p)
+per-result = equated _ (λ κs a z e p. p)
 
 -- The calls of crate numbers.
 pub wide-result : Determines wide.Post (λ κs z e. z)
-wide-result = equated wide.Post (λ κs z e. z) _ (λ κs a z e p. p .0)
+wide-result = equated _ (λ κs a z e p. p .0)
 
 pub wide32-result : Determines wide32.Post (λ κs z e. z)
-wide32-result = equated wide32.Post (λ κs z e. z) _ (λ κs a z e p. p .0)
+wide32-result = equated _ (λ κs a z e p. p .0)
 
 pub number-result : Determines number.Post (λ κs z e. z)
-number-result = equated number.Post (λ κs z e. z) _ (λ κs a z e p. p .0)
+number-result = equated _ (λ κs a z e p. p .0)
 
 pub count-result : Determines count.Post (λ κs z e. z)
-count-result = determined count.Post (λ κs z e. z) (λ κs. judged) (λ κs. judged-apart) _ (λ κs a z e p. p .0)
+count-result = determined (λ κs. judged) (λ κs. judged-apart) _ (λ κs a z e p. p .0)
 
 -- The calls of crate buffers.
 pub put-text-out : Determines put-text.Post (λ κs z e. now (e .1 .0))
-put-text-out = equated put-text.Post (λ κs z e. now (e .1 .0)) _ (λ κs a z e p. p)
+put-text-out = equated _ (λ κs a z e p. p)
 
 pub clear-out : Determines clear.Post (λ κs z e. now (e .0))
-clear-out = equated clear.Post (λ κs z e. now (e .0)) _ (λ κs a z e p. p)
+clear-out = equated _ (λ κs a z e p. p)
 
 -- The calls of crate displays.
 pub currency-taken-result : Determines currency-taken.Post (λ κs z e. z)
-currency-taken-result = equated currency-taken.Post (λ κs z e. z) _ (λ κs a z e p. p)
+currency-taken-result = equated _ (λ κs a z e p. p)
 
 pub display-taken-result : Determines display-taken.Post (λ κs z e. z)
-display-taken-result = equated display-taken.Post (λ κs z e. z) _ (λ κs a z e p. p)
+display-taken-result = equated _ (λ κs a z e p. p)
 
 -- The calls of crate marks.
 pub mark-result : Determines mark.Post (λ κs z e. z)
-mark-result = determined mark.Post (λ κs z e. z) (λ κs. judged) (λ κs. judged-apart) _ (λ κs a z e p. p)
+mark-result = determined (λ κs. judged) (λ κs. judged-apart) _ (λ κs a z e p. p)
 
 pub mark-by-result : Determines mark-by.Post (λ κs z e. z)
-mark-by-result = determined mark-by.Post (λ κs z e. z) (λ κs. judged) (λ κs. judged-apart) _ (λ κs a z e p. p)
+mark-by-result = determined (λ κs. judged) (λ κs. judged-apart) _ (λ κs a z e p. p)
 
 pub marks-result : Determines marks.Post (λ κs z e. z)
-marks-result = determined marks.Post (λ κs z e. z) (λ κs. judged) (λ κs. judged-apart) _ (λ κs a z e p. p)
+marks-result = determined (λ κs. judged) (λ κs. judged-apart) _ (λ κs a z e p. p)
 
 -- The call of crate heads.
 pub head-result : Determines head.Post (λ κs z e. z)
-head-result = determined head.Post (λ κs z e. z) (λ κs. headed) (λ κs. headed-apart) _ (λ κs a z e p. p)
+head-result = determined (λ κs. headed) (λ κs. headed-apart) _ (λ κs a z e p. p)
 
 -- The calls of crate values.
 pub size-result : Determines size.Post (λ κs z e. z)
-size-result = determined size.Post (λ κs z e. z) (λ κs. judged) (λ κs. judged-apart) _ (λ κs a z e p. p)
+size-result = determined (λ κs. judged) (λ κs. judged-apart) _ (λ κs a z e p. p)
 
 pub values-result : Determines values.Post (λ κs z e. z)
-values-result = determined values.Post (λ κs z e. z) (λ κs. judged) (λ κs. judged-apart) _ (λ κs a z e p. p)
+values-result = determined (λ κs. judged) (λ κs. judged-apart) _ (λ κs a z e p. p)
 
 -- The call of crate fields.
 pub outline-result : Determines outline.Post (λ κs z e. z)
-outline-result = determined outline.Post (λ κs z e. z) (λ κs. fielded) (λ κs. fielded-apart) _ (λ κs a z e p. p)
+outline-result = determined (λ κs. fielded) (λ κs. fielded-apart) _ (λ κs a z e p. p)
 
 -- The call of crate parts.
 pub part-result : Determines part.Post (λ κs z e. z)
-part-result = determined part.Post (λ κs z e. z) (λ κs. judged) (λ κs. judged-apart) _ (λ κs a z e p. p .0 .0)
+part-result = determined (λ κs. judged) (λ κs. judged-apart) _ (λ κs a z e p. p .0 .0)
 
 pub part-kept : Determines part.Post (λ κs z e. now (e .1 .1 .1 .1 .0))
-part-kept = equated part.Post (λ κs z e. now (e .1 .1 .1 .1 .0)) _ (λ κs a z e p. p .1)
+part-kept = equated _ (λ κs a z e p. p .1)
 
 -- The call of crate payload.
 pub payload-result : Determines payload.Post (λ κs z e. z)
-payload-result = determined payload.Post (λ κs z e. z) (λ κs. judged) (λ κs. judged-apart) _ (λ κs a z e p. p .0 .0)
+payload-result = determined (λ κs. judged) (λ κs. judged-apart) _ (λ κs a z e p. p .0 .0)
 
 pub payload-kept : Determines payload.Post (λ κs z e. now (e .1 .1 .1 .1 .0))
-payload-kept = equated payload.Post (λ κs z e. now (e .1 .1 .1 .1 .0)) _ (λ κs a z e p. p .1)
+payload-kept = equated _ (λ κs a z e p. p .1)
 
 -- The call of crate magic.
 pub magic-result : Determines magic.Post (λ κs z e. z)
-magic-result = determined magic.Post (λ κs z e. z) (λ κs. judged) (λ κs. judged-apart) _ (λ κs a z e p. p)
+magic-result = determined (λ κs. judged) (λ κs. judged-apart) _ (λ κs a z e p. p)
 
 -- The calls of crate header.
 pub header-result : Determines header.Post (λ κs z e. z)
-header-result = equated header.Post (λ κs z e. z) _ (λ κs a z e p. p)
+header-result = equated _ (λ κs a z e p. p)
 
 pub id-result : Determines id.Post (λ κs z e. z)
-id-result = determined id.Post (λ κs z e. z) (λ κs. fielded) (λ κs. fielded-apart) _ (λ κs a z e p. p)
+id-result = determined (λ κs. fielded) (λ κs. fielded-apart) _ (λ κs a z e p. p)
 
 -- The calls of crates front and reading.
 pub opened-result : Determines opened.Post (λ κs z e. z)
-opened-result = equated opened.Post (λ κs z e. z) _ (λ κs a z e p. p)
+opened-result = equated _ (λ κs a z e p. p)
 
 pub read-result : Determines read.Post (λ κs z e. z)
-read-result = equated read.Post (λ κs z e. z) _ (λ κs a z e p. p .0)
+read-result = equated _ (λ κs a z e p. p .0)
 
 pub read-table : Determines read.Post (λ κs z e. now (e .1 .0))
-read-table = equated read.Post (λ κs z e. now (e .1 .0)) _ (λ κs a z e p. p .1)
+read-table = equated _ (λ κs a z e p. p .1)
 
 pub judge-result : Determines judge.Post (λ κs z e. z)
-judge-result = equated judge.Post (λ κs z e. z) _ (λ κs a z e p. p)
+judge-result = equated _ (λ κs a z e p. p)
 
 -- The calls of crate asking.
 pub ask-result : Determines ask.Post (λ κs z e. z)
-ask-result = determined ask.Post (λ κs z e. z) (λ κs. fielded) (λ κs. fielded-apart) _ (λ κs a z e p. p)
+ask-result = determined (λ κs. fielded) (λ κs. fielded-apart) _ (λ κs a z e p. p)
 
 pub view-result : Determines view.Post (λ κs z e. now z)
-view-result = equated view.Post (λ κs z e. now z) _ (λ κs a z e p. p .0)
+view-result = equated _ (λ κs a z e p. p .0)
 
 pub view-part : Determines view.Post (λ κs z e. ptr z)
-view-part = equated view.Post (λ κs z e. ptr z) _ (λ κs a z e p. (λ i. (p .1 .0 i, p .1 .1 i)))
+view-part = equated _ (λ κs a z e p. (λ i. (p .1 .0 i, p .1 .1 i)))
 
 -- The call of crate scalars.
 pub value-result : Determines value.Post (λ κs z e. z)
-value-result = determined value.Post (λ κs z e. z) (λ κs. valued) (λ κs. valued-apart) _ (λ κs a z e p. p)
+value-result = determined (λ κs. valued) (λ κs. valued-apart) _ (λ κs a z e p. p)
 
 -- The calls of crate signed.
 pub i8-of-result : Determines i8-of.Post (λ κs z e. z)
-i8-of-result = equated i8-of.Post (λ κs z e. z) _ (λ κs a z e p. p)
+i8-of-result = equated _ (λ κs a z e p. p)
 
 pub i16-of-result : Determines i16-of.Post (λ κs z e. z)
-i16-of-result = equated i16-of.Post (λ κs z e. z) _ (λ κs a z e p. p)
+i16-of-result = equated _ (λ κs a z e p. p)
 
 pub i32-of-result : Determines i32-of.Post (λ κs z e. z)
-i32-of-result = equated i32-of.Post (λ κs z e. z) _ (λ κs a z e p. p)
+i32-of-result = equated _ (λ κs a z e p. p)
 
 pub i64-of-result : Determines i64-of.Post (λ κs z e. z)
-i64-of-result = equated i64-of.Post (λ κs z e. z) _ (λ κs a z e p. p)
+i64-of-result = equated _ (λ κs a z e p. p)
 
 -- The calls of crate kinds.
 pub float-of-result : Determines float-of.Post (λ κs z e. z)
-float-of-result = equated float-of.Post (λ κs z e. z) _ (λ κs a z e p. p)
+float-of-result = equated _ (λ κs a z e p. p)
 
 pub double-of-result : Determines double-of.Post (λ κs z e. z)
-double-of-result = equated double-of.Post (λ κs z e. z) _ (λ κs a z e p. p)
+double-of-result = equated _ (λ κs a z e p. p)
 
 pub float-with-result : Determines float-with.Post (λ κs z e. z)
-float-with-result = equated float-with.Post (λ κs z e. z) _ (λ κs a z e p. p)
+float-with-result = equated _ (λ κs a z e p. p)
 
 pub double-with-result : Determines double-with.Post (λ κs z e. z)
-double-with-result = equated double-with.Post (λ κs z e. z) _ (λ κs a z e p. p)
+double-with-result = equated _ (λ κs a z e p. p)
 
 -- The calls of crate blanking.
 pub blank-result : Determines blank.Post (λ κs z e. z)
-blank-result = determined blank.Post (λ κs z e. z) (λ κs. judged) (λ κs. judged-apart) _ (λ κs a z e p. p .0)
+blank-result = determined (λ κs. judged) (λ κs. judged-apart) _ (λ κs a z e p. p .0)
 
 pub blank-out : Determines blank.Post (λ κs z e. now (e .1 .0))
-blank-out = equated blank.Post (λ κs z e. now (e .1 .0)) _ (λ κs a z e p. p .1)
+blank-out = equated _ (λ κs a z e p. p .1)
 
 -- The calls of recordings.
 pub index-result : Determines index.Post (λ κs z e. z)
-index-result = determined index.Post (λ κs z e. z) (λ κs. trailedAs) (λ κs. trailed-apart) _ (λ κs a z e p. p)
+index-result = determined (λ κs. trailedAs) (λ κs. trailed-apart) _ (λ κs a z e p. p)
 
 pub recording-open-result : Determines recording-open.Post (λ κs z e. z)
-recording-open-result =
-    determined recording-open.Post (λ κs z e. z) (λ κs. judged) (λ κs. judged-apart) _ (λ κs a z e p. p)
+recording-open-result = determined (λ κs. judged) (λ κs. judged-apart) _ (λ κs a z e p. p)
 
 pub open-into-result : Determines open-into.Post (λ κs z e. z)
-open-into-result =
-    determined open-into.Post (λ κs z e. z) (λ κs. judged) (λ κs. judged-apart) _ (λ κs a z e p. p .0)
+open-into-result = determined (λ κs. judged) (λ κs. judged-apart) _ (λ κs a z e p. p .0)
 
 pub open-into-table : Determines open-into.Post (λ κs z e. now (e .1 .0))
-open-into-table = equated open-into.Post (λ κs z e. now (e .1 .0)) _ (λ κs a z e p. p .1)
+open-into-table = equated _ (λ κs a z e p. p .1)
 
 pub recording-ask-result : Determines recording-ask.Post (λ κs z e. z)
-recording-ask-result =
-    determined recording-ask.Post (λ κs z e. z) (λ κs. askedAs) (λ κs. asked-apart) _ (λ κs a z e p. p)
+recording-ask-result = determined (λ κs. askedAs) (λ κs. asked-apart) _ (λ κs a z e p. p)
 
 pub front-length-result : Determines front-length.Post (λ κs z e. z)
-front-length-result =
-    determined front-length.Post (λ κs z e. z) (λ κs. judged) (λ κs. judged-apart) _ (λ κs a z e p. p)
+front-length-result = determined (λ κs. judged) (λ κs. judged-apart) _ (λ κs a z e p. p)
 
 pub divide-result : Determines divide.Post (λ κs z e. z)
-divide-result = equated divide.Post (λ κs z e. z) _ (λ κs a z e p. p .0)
+divide-result = equated _ (λ κs a z e p. p .0)
 
 pub divide-lengths : Determines divide.Post (λ κs z e. now (e .1 .0))
-divide-lengths = equated divide.Post (λ κs z e. now (e .1 .0)) _ (λ κs a z e p. p .1)
+divide-lengths = equated _ (λ κs a z e p. p .1)
 
 pub put-tail-result : Determines put-tail.Post (λ κs z e. z)
-put-tail-result =
-    determined put-tail.Post (λ κs z e. z) (λ κs. judged) (λ κs. judged-apart) _ (λ κs a z e p. p .0)
+put-tail-result = determined (λ κs. judged) (λ κs. judged-apart) _ (λ κs a z e p. p .0)
 
 pub put-tail-out : Determines put-tail.Post (λ κs z e. now (e .1 .0))
-put-tail-out = equated put-tail.Post (λ κs z e. now (e .1 .0)) _ (λ κs a z e p. p .1)
+put-tail-out = equated _ (λ κs a z e p. p .1)
 
 pub recorder-new-result : Determines recorder-new.Post (λ κs z e. z)
-recorder-new-result = equated recorder-new.Post (λ κs z e. z) _ (λ κs a z e p. p)
+recorder-new-result = equated _ (λ κs a z e p. p)
 
 pub recorder-add-result : Determines recorder-add.Post (λ κs z e. z)
-recorder-add-result = equated recorder-add.Post (λ κs z e. z) _ (λ κs a z e p. p .0)
+recorder-add-result = equated _ (λ κs a z e p. p .0)
 
 pub recorder-add-out : Determines recorder-add.Post (λ κs z e. now (e .1 .1 .0))
-recorder-add-out = equated recorder-add.Post (λ κs z e. now (e .1 .1 .0)) _ (λ κs a z e p. p .1)
+recorder-add-out = equated _ (λ κs a z e p. p .1)
 
 pub recorder-close-result : Determines recorder-close.Post (λ κs z e. z)
-recorder-close-result = equated recorder-close.Post (λ κs z e. z) _ (λ κs a z e p. p .0)
+recorder-close-result = equated _ (λ κs a z e p. p .0)
 
 pub recorder-close-out : Determines recorder-close.Post (λ κs z e. now (e .1 .0))
-recorder-close-out = equated recorder-close.Post (λ κs z e. now (e .1 .0)) _ (λ κs a z e p. p .1)
+recorder-close-out = equated _ (λ κs a z e p. p .1)
 
 pub salvage-result : Determines salvage.Post (λ κs z e. z)
-salvage-result = equated salvage.Post (λ κs z e. z) _ (λ κs a z e p. p .0)
+salvage-result = equated _ (λ κs a z e p. p .0)
 
 pub salvage-out : Determines salvage.Post (λ κs z e. now (e .1 .0))
-salvage-out = equated salvage.Post (λ κs z e. now (e .1 .0)) _ (λ κs a z e p. p .1)
+salvage-out = equated _ (λ κs a z e p. p .1)
 
 -- The call of crate commands.
 pub command-result : Determines command.Post (λ κs z e. z)
-command-result = determined command.Post (λ κs z e. z) (λ κs. commandAs) (λ κs. command-apart) _ (λ κs a z e p. p)
+command-result = determined (λ κs. commandAs) (λ κs. command-apart) _ (λ κs a z e p. p)
 
 -- The calls of the book of senders.
 pub place-of-result : Determines place-of.Post (λ κs z e. z)
-place-of-result = equated place-of.Post (λ κs z e. z) _ (λ κs a z e p. p)
+place-of-result = equated _ (λ κs a z e p. p)
 
 pub free-place-result : Determines free-place.Post (λ κs z e. z)
-free-place-result = equated free-place.Post (λ κs z e. z) _ (λ κs a z e p. p)
+free-place-result = equated _ (λ κs a z e p. p)
 
 pub book-empty-result : Determines book-empty.Post (λ κs z e. z)
-book-empty-result = equated book-empty.Post (λ κs z e. z) _ (λ κs a z e p. p)
+book-empty-result = equated _ (λ κs a z e p. p)
 
 pub take-framed-result : Determines take-framed.Post (λ κs z e. z)
-take-framed-result = equated take-framed.Post (λ κs z e. z) _ (λ κs a z e p. p)
+take-framed-result = equated _ (λ κs a z e p. p)
 
 pub book-take-result : Determines book-take.Post (λ κs z e. z)
-book-take-result = equated book-take.Post (λ κs z e. z) _ (λ κs a z e p. p)
+book-take-result = equated _ (λ κs a z e p. p)
 
 pub book-close-result : Determines book-close.Post (λ κs z e. z)
-book-close-result = equated book-close.Post (λ κs z e. z) _ (λ κs a z e p. p)
+book-close-result = equated _ (λ κs a z e p. p)
 
 -- The calls of the ledger.
 pub order-result : Determines order.Post (λ κs z e. z)
-order-result = determined order.Post (λ κs z e. z) (λ κs. ordered) (λ κs. ordered-apart) _ (λ κs a z e p. p)
+order-result = determined (λ κs. ordered) (λ κs. ordered-apart) _ (λ κs a z e p. p)
 
 pub ledger-empty-result : Determines ledger-empty.Post (λ κs z e. z)
-ledger-empty-result = equated ledger-empty.Post (λ κs z e. z) _ (λ κs a z e p. p)
+ledger-empty-result = equated _ (λ κs a z e p. p)
 
 pub muster-framed-result : Determines muster-framed.Post (λ κs z e. z)
-muster-framed-result = equated muster-framed.Post (λ κs z e. z) _ (λ κs a z e p. p)
+muster-framed-result = equated _ (λ κs a z e p. p)
 
 pub muster-result : Determines muster.Post (λ κs z e. z)
-muster-result = equated muster.Post (λ κs z e. z) _ (λ κs a z e p. p)
+muster-result = equated _ (λ κs a z e p. p)
 
 pub reckon-result : Determines reckon.Post (λ κs z e. z)
-reckon-result = equated reckon.Post (λ κs z e. z) _ (λ κs a z e p. p)
+reckon-result = equated _ (λ κs a z e p. p)
 
 -- The calls of crate puts.
 pub bits-result : Determines bits.Post (λ κs z e. z)
-bits-result = equated bits.Post (λ κs z e. z) _ (λ κs a z e p. p)
+bits-result = equated _ (λ κs a z e p. p)
 
 pub put-big-out : Determines put-big.Post (λ κs z e. now (e .0))
-put-big-out = equated put-big.Post (λ κs z e. now (e .0)) _ (λ κs a z e p. p)
+put-big-out = equated _ (λ κs a z e p. p)
 
 pub put-number-out : Determines put-number.Post (λ κs z e. now (e .0))
-put-number-out = equated put-number.Post (λ κs z e. now (e .0)) _ (λ κs a z e p. p)
+put-number-out = equated _ (λ κs a z e p. p)
 
 -- The calls of crate encoding.
 pub encode-result : Determines encode.Post (λ κs z e. z)
-encode-result = equated encode.Post (λ κs z e. z) _ (λ κs a z e p. p)
+encode-result = equated _ (λ κs a z e p. p)
 
 pub mark-taken-result : Determines mark-taken.Post (λ κs z e. z)
-mark-taken-result = equated mark-taken.Post (λ κs z e. z) _ (λ κs a z e p. p)
+mark-taken-result = equated _ (λ κs a z e p. p)
 
 -- The calls of crate opening.
 pub write-header-result : Determines write-header.Post (λ κs z e. z)
-write-header-result = determined write-header.Post (λ κs z e. z) (λ κs. judged) (λ κs. judged-apart) _ (λ κs a z e p. p .0)
+write-header-result = determined (λ κs. judged) (λ κs. judged-apart) _ (λ κs a z e p. p .0)
 
 pub write-header-out : Determines write-header.Post (λ κs z e. now (e .1 .1 .1 .1 .1 .0))
-write-header-out = equated write-header.Post (λ κs z e. now (e .1 .1 .1 .1 .1 .0)) _ (λ κs a z e p. p .1)
+write-header-out = equated _ (λ κs a z e p. p .1)
 
 -- The calls of crate writing.
 pub opening-result : Determines opening.Post (λ κs z e. z)
-opening-result = equated opening.Post (λ κs z e. z) _ (λ κs a z e p. p .0)
+opening-result = equated _ (λ κs a z e p. p .0)
 
 pub opening-out : Determines opening.Post (λ κs z e. now (e .1 .1 .1 .1 .1 .0))
-opening-out = equated opening.Post (λ κs z e. now (e .1 .1 .1 .1 .1 .0)) _ (λ κs a z e p. p .1)
+opening-out = equated _ (λ κs a z e p. p .1)
 
 pub add-result : Determines add.Post (λ κs z e. z)
-add-result = equated add.Post (λ κs z e. z) _ (λ κs a z e p. p .0)
+add-result = equated _ (λ κs a z e p. p .0)
 
 pub add-out : Determines add.Post (λ κs z e. now (e .1 .1 .0))
-add-out = equated add.Post (λ κs z e. now (e .1 .1 .0)) _ (λ κs a z e p. p .1)
+add-out = equated _ (λ κs a z e p. p .1)
 
 pub add-scalar-result : Determines add-scalar.Post (λ κs z e. z)
-add-scalar-result = equated add-scalar.Post (λ κs z e. z) _ (λ κs a z e p. p .0)
+add-scalar-result = equated _ (λ κs a z e p. p .0)
 
 pub add-scalar-out : Determines add-scalar.Post (λ κs z e. now (e .1 .1 .0))
-add-scalar-out = equated add-scalar.Post (λ κs z e. now (e .1 .1 .0)) _ (λ κs a z e p. p .1)
+add-scalar-out = equated _ (λ κs a z e p. p .1)
 
 pub close-result : Determines close.Post (λ κs z e. z)
-close-result = equated close.Post (λ κs z e. z) _ (λ κs a z e p. p)
+close-result = equated _ (λ κs a z e p. p)
 
 -- The calls of sums.
 pub shown-plus-result : Determines shown-plus.Post (λ κs z e. z)
-shown-plus-result = equated shown-plus.Post (λ κs z e. z) _ (λ κs a z e p. p)
+shown-plus-result = equated _ (λ κs a z e p. p)
 
 pub shown-less-result : Determines shown-less.Post (λ κs z e. z)
-shown-less-result = equated shown-less.Post (λ κs z e. z) _ (λ κs a z e p. p)
+shown-less-result = equated _ (λ κs a z e p. p)
 
 pub length-plus-result : Determines length-plus.Post (λ κs z e. z)
-length-plus-result = determined length-plus.Post (λ κs z e. z) (λ κs z. z .0) (λ κs. length-apart) _ (λ κs a z e p. p)
+length-plus-result = determined (λ κs z. z .0) (λ κs. length-apart) _ (λ κs a z e p. p)
 
 pub length-plus-position-result : Determines length-plus-position.Post (λ κs z e. z)
-length-plus-position-result = determined length-plus-position.Post (λ κs z e. z) (λ κs z. z .0) (λ κs. position-apart) _ (λ κs a z e p. p)
+length-plus-position-result = determined (λ κs z. z .0) (λ κs. position-apart) _ (λ κs a z e p. p)
 
 pub length-less-result : Determines length-less.Post (λ κs z e. z)
-length-less-result = determined length-less.Post (λ κs z e. z) (λ κs z. z .0) (λ κs. length-apart) _ (λ κs a z e p. p)
+length-less-result = determined (λ κs z. z .0) (λ κs. length-apart) _ (λ κs a z e p. p)
 
 pub position-plus-result : Determines position-plus.Post (λ κs z e. z)
-position-plus-result = determined position-plus.Post (λ κs z e. z) (λ κs z. z .0) (λ κs. position-apart) _ (λ κs a z e p. p)
+position-plus-result = determined (λ κs z. z .0) (λ κs. position-apart) _ (λ κs a z e p. p)
 
 pub position-less-result : Determines position-less.Post (λ κs z e. z)
-position-less-result = determined position-less.Post (λ κs z e. z) (λ κs z. z .0) (λ κs. position-apart) _ (λ κs a z e p. p)
+position-less-result = determined (λ κs z. z .0) (λ κs. position-apart) _ (λ κs a z e p. p)
 
 pub position-less-position-result : Determines position-less-position.Post (λ κs z e. z)
-position-less-position-result = determined position-less-position.Post (λ κs z e. z) (λ κs z. z .0) (λ κs. length-apart) _ (λ κs a z e p. p)
+position-less-position-result = determined (λ κs z. z .0) (λ κs. length-apart) _ (λ κs a z e p. p)
 
 pub duration-plus-result : Determines duration-plus.Post (λ κs z e. z)
-duration-plus-result = determined duration-plus.Post (λ κs z e. z) (λ κs z. z .0) (λ κs. duration-apart) _ (λ κs a z e p. p)
+duration-plus-result = determined (λ κs z. z .0) (λ κs. duration-apart) _ (λ κs a z e p. p)
 
 pub duration-plus-time-result : Determines duration-plus-time.Post (λ κs z e. z)
-duration-plus-time-result = determined duration-plus-time.Post (λ κs z e. z) (λ κs z. z .0) (λ κs. time-apart) _ (λ κs a z e p. p)
+duration-plus-time-result = determined (λ κs z. z .0) (λ κs. time-apart) _ (λ κs a z e p. p)
 
 pub duration-less-result : Determines duration-less.Post (λ κs z e. z)
-duration-less-result = determined duration-less.Post (λ κs z e. z) (λ κs z. z .0) (λ κs. duration-apart) _ (λ κs a z e p. p)
+duration-less-result = determined (λ κs z. z .0) (λ κs. duration-apart) _ (λ κs a z e p. p)
 
 pub time-plus-result : Determines time-plus.Post (λ κs z e. z)
-time-plus-result = determined time-plus.Post (λ κs z e. z) (λ κs z. z .0) (λ κs. time-apart) _ (λ κs a z e p. p)
+time-plus-result = determined (λ κs z. z .0) (λ κs. time-apart) _ (λ κs a z e p. p)
 
 pub time-less-result : Determines time-less.Post (λ κs z e. z)
-time-less-result = determined time-less.Post (λ κs z e. z) (λ κs z. z .0) (λ κs. time-apart) _ (λ κs a z e p. p)
+time-less-result = determined (λ κs z. z .0) (λ κs. time-apart) _ (λ κs a z e p. p)
 
 pub time-less-time-result : Determines time-less-time.Post (λ κs z e. z)
-time-less-time-result = determined time-less-time.Post (λ κs z e. z) (λ κs z. z .0) (λ κs. duration-apart) _ (λ κs a z e p. p)
+time-less-time-result = determined (λ κs z. z .0) (λ κs. duration-apart) _ (λ κs a z e p. p)
 
 pub angle-plus-result : Determines angle-plus.Post (λ κs z e. z)
-angle-plus-result = determined angle-plus.Post (λ κs z e. z) (λ κs z. z .0) (λ κs. angle-apart) _ (λ κs a z e p. p)
+angle-plus-result = determined (λ κs z. z .0) (λ κs. angle-apart) _ (λ κs a z e p. p)
 
 pub angle-plus-direction-result : Determines angle-plus-direction.Post (λ κs z e. z)
-angle-plus-direction-result = determined angle-plus-direction.Post (λ κs z e. z) (λ κs z. z .0) (λ κs. direction-apart) _ (λ κs a z e p. p)
+angle-plus-direction-result = determined (λ κs z. z .0) (λ κs. direction-apart) _ (λ κs a z e p. p)
 
 pub angle-less-result : Determines angle-less.Post (λ κs z e. z)
-angle-less-result = determined angle-less.Post (λ κs z e. z) (λ κs z. z .0) (λ κs. angle-apart) _ (λ κs a z e p. p)
+angle-less-result = determined (λ κs z. z .0) (λ κs. angle-apart) _ (λ κs a z e p. p)
 
 pub direction-plus-result : Determines direction-plus.Post (λ κs z e. z)
-direction-plus-result = determined direction-plus.Post (λ κs z e. z) (λ κs z. z .0) (λ κs. direction-apart) _ (λ κs a z e p. p)
+direction-plus-result = determined (λ κs z. z .0) (λ κs. direction-apart) _ (λ κs a z e p. p)
 
 pub direction-less-result : Determines direction-less.Post (λ κs z e. z)
-direction-less-result = determined direction-less.Post (λ κs z e. z) (λ κs z. z .0) (λ κs. direction-apart) _ (λ κs a z e p. p)
+direction-less-result = determined (λ κs z. z .0) (λ κs. direction-apart) _ (λ κs a z e p. p)
 
 pub direction-less-direction-result : Determines direction-less-direction.Post (λ κs z e. z)
-direction-less-direction-result = determined direction-less-direction.Post (λ κs z e. z) (λ κs z. z .0) (λ κs. angle-apart) _ (λ κs a z e p. p)
+direction-less-direction-result = determined (λ κs z. z .0) (λ κs. angle-apart) _ (λ κs a z e p. p)
 
 pub temperature-plus-result : Determines temperature-plus.Post (λ κs z e. z)
-temperature-plus-result = determined temperature-plus.Post (λ κs z e. z) (λ κs z. z .0) (λ κs. temperature-apart) _ (λ κs a z e p. p)
+temperature-plus-result = determined (λ κs z. z .0) (λ κs. temperature-apart) _ (λ κs a z e p. p)
 
 pub temperature-plus-absolute-temperature-result : Determines temperature-plus-absolute-temperature.Post (λ κs z e. z)
-temperature-plus-absolute-temperature-result = determined temperature-plus-absolute-temperature.Post (λ κs z e. z) (λ κs z. z .0) (λ κs. absolute-temperature-apart) _ (λ κs a z e p. p)
+temperature-plus-absolute-temperature-result = determined (λ κs z. z .0) (λ κs. absolute-temperature-apart) _ (λ κs a z e p. p)
 
 pub temperature-less-result : Determines temperature-less.Post (λ κs z e. z)
-temperature-less-result = determined temperature-less.Post (λ κs z e. z) (λ κs z. z .0) (λ κs. temperature-apart) _ (λ κs a z e p. p)
+temperature-less-result = determined (λ κs z. z .0) (λ κs. temperature-apart) _ (λ κs a z e p. p)
 
 pub absolute-temperature-plus-result : Determines absolute-temperature-plus.Post (λ κs z e. z)
-absolute-temperature-plus-result = determined absolute-temperature-plus.Post (λ κs z e. z) (λ κs z. z .0) (λ κs. absolute-temperature-apart) _ (λ κs a z e p. p)
+absolute-temperature-plus-result = determined (λ κs z. z .0) (λ κs. absolute-temperature-apart) _ (λ κs a z e p. p)
 
 pub absolute-temperature-less-result : Determines absolute-temperature-less.Post (λ κs z e. z)
-absolute-temperature-less-result = determined absolute-temperature-less.Post (λ κs z e. z) (λ κs z. z .0) (λ κs. absolute-temperature-apart) _ (λ κs a z e p. p)
+absolute-temperature-less-result = determined (λ κs z. z .0) (λ κs. absolute-temperature-apart) _ (λ κs a z e p. p)
 
 pub absolute-temperature-less-absolute-temperature-result : Determines absolute-temperature-less-absolute-temperature.Post (λ κs z e. z)
-absolute-temperature-less-absolute-temperature-result = determined absolute-temperature-less-absolute-temperature.Post (λ κs z e. z) (λ κs z. z .0) (λ κs. temperature-apart) _ (λ κs a z e p. p)
+absolute-temperature-less-absolute-temperature-result = determined (λ κs z. z .0) (λ κs. temperature-apart) _ (λ κs a z e p. p)
 
 pub quantity-of-result : Determines quantity-of.Post (λ κs z e. z)
-quantity-of-result = determined quantity-of.Post (λ κs z e. z) (λ κs. seen) (λ κs. seen-apart) _ (λ κs a z e p. p)
+quantity-of-result = determined (λ κs. seen) (λ κs. seen-apart) _ (λ κs a z e p. p)
 
 pub add-quantities-result : Determines add-quantities.Post (λ κs z e. z)
-add-quantities-result = determined add-quantities.Post (λ κs z e. z) (λ κs. seen) (λ κs. seen-apart) _ (λ κs a z e p. p)
+add-quantities-result = determined (λ κs. seen) (λ κs. seen-apart) _ (λ κs a z e p. p)
 
 pub subtract-quantities-result : Determines subtract-quantities.Post (λ κs z e. z)
-subtract-quantities-result = determined subtract-quantities.Post (λ κs z e. z) (λ κs. seen) (λ κs. seen-apart) _ (λ κs a z e p. p)
+subtract-quantities-result = determined (λ κs. seen) (λ κs. seen-apart) _ (λ κs a z e p. p)
 
 pub sum-result : Determines sum.Post (λ κs z e. z)
-sum-result = determined sum.Post (λ κs z e. z) (λ κs. valued) (λ κs. valued-apart) _ (λ κs a z e p. p)
+sum-result = determined (λ κs. valued) (λ κs. valued-apart) _ (λ κs a z e p. p)
 
 pub difference-result : Determines difference.Post (λ κs z e. z)
-difference-result = determined difference.Post (λ κs z e. z) (λ κs. valued) (λ κs. valued-apart) _ (λ κs a z e p. p)
+difference-result = determined (λ κs. valued) (λ κs. valued-apart) _ (λ κs a z e p. p)
 
 -- The calls of crate casting.
 pub give-value-result : Determines give-value.Post (λ κs z e. z)
-give-value-result = equated give-value.Post (λ κs z e. z) _ (λ κs a z e p. p .0)
+give-value-result = equated _ (λ κs a z e p. p .0)
 
 pub give-value-answer : Determines give-value.Post (λ κs z e. now (e .1 .0))
-give-value-answer = equated give-value.Post (λ κs z e. now (e .1 .0)) _ (λ κs a z e p. p .1)
+give-value-answer = equated _ (λ κs a z e p. p .1)
 
 pub scalar-from-result : Determines scalar-from.Post (λ κs z e. z)
-scalar-from-result = equated scalar-from.Post (λ κs z e. z) _ (λ κs a z e p. p)
+scalar-from-result = equated _ (λ κs a z e p. p)
 
 -- The calls of crate crossing.
 pub give-read-result : Determines give-read.Post (λ κs z e. z)
-give-read-result = equated give-read.Post (λ κs z e. z) _ (λ κs a z e p. p .0)
+give-read-result = equated _ (λ κs a z e p. p .0)
 
 pub give-read-answer : Determines give-read.Post (λ κs z e. now (e .1 .0))
-give-read-answer = equated give-read.Post (λ κs z e. now (e .1 .0)) _ (λ κs a z e p. p .1)
+give-read-answer = equated _ (λ κs a z e p. p .1)
 
 pub give-length-result : Determines give-length.Post (λ κs z e. z)
-give-length-result = equated give-length.Post (λ κs z e. z) _ (λ κs a z e p. p .0)
+give-length-result = equated _ (λ κs a z e p. p .0)
 
 pub give-length-answer : Determines give-length.Post (λ κs z e. now (e .1 .0))
-give-length-answer = equated give-length.Post (λ κs z e. now (e .1 .0)) _ (λ κs a z e p. p .1)
+give-length-answer = equated _ (λ κs a z e p. p .1)
 
 pub give-view-result : Determines give-view.Post (λ κs z e. z)
-give-view-result = equated give-view.Post (λ κs z e. z) _ (λ κs a z e p. p .0)
+give-view-result = equated _ (λ κs a z e p. p .0)
 
 pub give-view-answer : Determines give-view.Post (λ κs z e. now (e .1 .0))
-give-view-answer = equated give-view.Post (λ κs z e. now (e .1 .0)) _ (λ κs a z e p. p .1)
+give-view-answer = equated _ (λ κs a z e p. p .1)
 
 -- The calls of crate writer_crossing.
 pub give-wrote-result : Determines give-wrote.Post (λ κs z e. z)
-give-wrote-result = equated give-wrote.Post (λ κs z e. z) _ (λ κs a z e p. p .0)
+give-wrote-result = equated _ (λ κs a z e p. p .0)
 
 pub give-wrote-answer : Determines give-wrote.Post (λ κs z e. now (e .1 .0))
-give-wrote-answer = equated give-wrote.Post (λ κs z e. now (e .1 .0)) _ (λ κs a z e p. p .1)
+give-wrote-answer = equated _ (λ κs a z e p. p .1)
 
 pub writer-of-result : Determines writer-of.Post (λ κs z e. z)
-writer-of-result = equated writer-of.Post (λ κs z e. z) _ (λ κs a z e p. p)
+writer-of-result = equated _ (λ κs a z e p. p)
 
 pub count-type-result : Determines count-type.Post (λ κs z e. z)
-count-type-result = equated count-type.Post (λ κs z e. z) _ (λ κs a z e p. p)
+count-type-result = equated _ (λ κs a z e p. p)
 
 -- The call of crate giving.
 pub give-result : Determines give.Post (λ κs z e. z)
-give-result = equated give.Post (λ κs z e. z) _ (λ κs a z e p. p .0)
+give-result = equated _ (λ κs a z e p. p .0)
 
 pub give-answer : Determines give.Post (λ κs z e. now (e .1 .0))
-give-answer = equated give.Post (λ κs z e. now (e .1 .0)) _ (λ κs a z e p. p .1)
+give-answer = equated _ (λ κs a z e p. p .1)
 
 -- The calls of crate exports.
 pub c-read-result : Determines c-read.Post (λ κs z e. z)
-c-read-result = equated c-read.Post (λ κs z e. z) _ (λ κs a z e p. p .0)
+c-read-result = equated _ (λ κs a z e p. p .0)
 
 pub c-read-table : Determines c-read.Post (λ κs z e. now (e .1 .0))
-c-read-table = equated c-read.Post (λ κs z e. now (e .1 .0)) _ (λ κs a z e p. p .1 .0)
+c-read-table = equated _ (λ κs a z e p. p .1 .0)
 
 pub c-read-answer : Determines c-read.Post (λ κs z e. now (e .1 .1 .0))
-c-read-answer = equated c-read.Post (λ κs z e. now (e .1 .1 .0)) _ (λ κs a z e p. p .1 .1)
+c-read-answer = equated _ (λ κs a z e p. p .1 .1)
 
 pub c-judge-result : Determines c-judge.Post (λ κs z e. z)
-c-judge-result = equated c-judge.Post (λ κs z e. z) _ (λ κs a z e p. p .0)
+c-judge-result = equated _ (λ κs a z e p. p .0)
 
 pub c-judge-answer : Determines c-judge.Post (λ κs z e. now (e .1 .0))
-c-judge-answer = equated c-judge.Post (λ κs z e. now (e .1 .0)) _ (λ κs a z e p. p .1)
+c-judge-answer = equated _ (λ κs a z e p. p .1)
 
 pub c-value-result : Determines c-value.Post (λ κs z e. z)
-c-value-result = equated c-value.Post (λ κs z e. z) _ (λ κs a z e p. p .0)
+c-value-result = equated _ (λ κs a z e p. p .0)
 
 pub c-value-answer : Determines c-value.Post (λ κs z e. now (e .1 .1 .0))
-c-value-answer = equated c-value.Post (λ κs z e. now (e .1 .1 .0)) _ (λ κs a z e p. p .1)
+c-value-answer = equated _ (λ κs a z e p. p .1)
 
 pub c-view-result : Determines c-view.Post (λ κs z e. z)
-c-view-result = equated c-view.Post (λ κs z e. z) _ (λ κs a z e p. p .0)
+c-view-result = equated _ (λ κs a z e p. p .0)
 
 pub c-view-answer : Determines c-view.Post (λ κs z e. now (e .1 .1 .0))
-c-view-answer = equated c-view.Post (λ κs z e. now (e .1 .1 .0)) _ (λ κs a z e p. p .1)
+c-view-answer = equated _ (λ κs a z e p. p .1)
 
 pub c-blank-result : Determines c-blank.Post (λ κs z e. z)
-c-blank-result = equated c-blank.Post (λ κs z e. z) _ (λ κs a z e p. p .0)
+c-blank-result = equated _ (λ κs a z e p. p .0)
 
 pub c-blank-out : Determines c-blank.Post (λ κs z e. now (e .1 .0))
-c-blank-out = equated c-blank.Post (λ κs z e. now (e .1 .0)) _ (λ κs a z e p. p .1 .0)
+c-blank-out = equated _ (λ κs a z e p. p .1 .0)
 
 pub c-blank-answer : Determines c-blank.Post (λ κs z e. now (e .1 .1 .0))
-c-blank-answer = equated c-blank.Post (λ κs z e. now (e .1 .1 .0)) _ (λ κs a z e p. p .1 .1)
+c-blank-answer = equated _ (λ κs a z e p. p .1 .1)
 
 -- The calls of crate writer_exports.
 pub c-open-result : Determines c-open.Post (λ κs z e. z)
-c-open-result = equated c-open.Post (λ κs z e. z) _ (λ κs a z e p. p .0)
+c-open-result = equated _ (λ κs a z e p. p .0)
 
 pub c-open-out : Determines c-open.Post (λ κs z e. now (e .1 .1 .1 .1 .1 .1 .0))
-c-open-out = equated c-open.Post (λ κs z e. now (e .1 .1 .1 .1 .1 .1 .0)) _ (λ κs a z e p. p .1 .0)
+c-open-out = equated _ (λ κs a z e p. p .1 .0)
 
 pub c-open-answer : Determines c-open.Post (λ κs z e. now (e .1 .1 .1 .1 .1 .1 .1 .0))
-c-open-answer = equated c-open.Post (λ κs z e. now (e .1 .1 .1 .1 .1 .1 .1 .0)) _ (λ κs a z e p. p .1 .1)
+c-open-answer = equated _ (λ κs a z e p. p .1 .1)
 
 pub c-add-result : Determines c-add.Post (λ κs z e. z)
-c-add-result = equated c-add.Post (λ κs z e. z) _ (λ κs a z e p. p .0)
+c-add-result = equated _ (λ κs a z e p. p .0)
 
 pub c-add-out : Determines c-add.Post (λ κs z e. now (e .1 .1 .1 .1 .1 .0))
-c-add-out = equated c-add.Post (λ κs z e. now (e .1 .1 .1 .1 .1 .0)) _ (λ κs a z e p. p .1 .0)
+c-add-out = equated _ (λ κs a z e p. p .1 .0)
 
 pub c-add-answer : Determines c-add.Post (λ κs z e. now (e .1 .1 .1 .1 .1 .1 .0))
-c-add-answer = equated c-add.Post (λ κs z e. now (e .1 .1 .1 .1 .1 .1 .0)) _ (λ κs a z e p. p .1 .1)
+c-add-answer = equated _ (λ κs a z e p. p .1 .1)
 
 pub c-add-scalar-result : Determines c-add-scalar.Post (λ κs z e. z)
-c-add-scalar-result = equated c-add-scalar.Post (λ κs z e. z) _ (λ κs a z e p. p .0)
+c-add-scalar-result = equated _ (λ κs a z e p. p .0)
 
 pub c-add-scalar-out : Determines c-add-scalar.Post (λ κs z e. now (e .1 .1 .1 .1 .1 .1 .1 .1 .1 .0))
-c-add-scalar-out = equated c-add-scalar.Post (λ κs z e. now (e .1 .1 .1 .1 .1 .1 .1 .1 .1 .0)) _ (λ κs a z e p. p .1 .0)
+c-add-scalar-out = equated _ (λ κs a z e p. p .1 .0)
 
 pub c-add-scalar-answer : Determines c-add-scalar.Post (λ κs z e. now (e .1 .1 .1 .1 .1 .1 .1 .1 .1 .1 .0))
-c-add-scalar-answer = equated c-add-scalar.Post (λ κs z e. now (e .1 .1 .1 .1 .1 .1 .1 .1 .1 .1 .0)) _ (λ κs a z e p. p .1 .1)
+c-add-scalar-answer = equated _ (λ κs a z e p. p .1 .1)
 
 pub c-close-result : Determines c-close.Post (λ κs z e. z)
-c-close-result = equated c-close.Post (λ κs z e. z) _ (λ κs a z e p. p .0)
+c-close-result = equated _ (λ κs a z e p. p .0)
 
 pub c-close-answer : Determines c-close.Post (λ κs z e. now (e .1 .1 .1 .1 .0))
-c-close-answer = equated c-close.Post (λ κs z e. now (e .1 .1 .1 .1 .0)) _ (λ κs a z e p. p .1)
+c-close-answer = equated _ (λ κs a z e p. p .1)
 
 -- The calls of crate pieces.
 pub put-result : Determines put.Post (λ κs z e. z)
-put-result = equated put.Post (λ κs z e. z) _ (λ κs a z e p. p .0)
+put-result = equated _ (λ κs a z e p. p .0)
 
 pub put-out : Determines put.Post (λ κs z e. now (e .1 .0))
-put-out = equated put.Post (λ κs z e. now (e .1 .0)) _ (λ κs a z e p. p .1)
+put-out = equated _ (λ κs a z e p. p .1)
 
 pub decimal-result : Determines decimal.Post (λ κs z e. z)
-decimal-result = equated decimal.Post (λ κs z e. z) _ (λ κs a z e p. p .0)
+decimal-result = equated _ (λ κs a z e p. p .0)
 
 pub decimal-out : Determines decimal.Post (λ κs z e. now (e .1 .0))
-decimal-out = equated decimal.Post (λ κs z e. now (e .1 .0)) _ (λ κs a z e p. p .1)
+decimal-out = equated _ (λ κs a z e p. p .1)
 
 -- The calls of crate listing.
 pub listing-result : Determines listing.Post (λ κs z e. z)
-listing-result = equated listing.Post (λ κs z e. z) _ (λ κs a z e p. p .1 .0)
+listing-result = equated _ (λ κs a z e p. p .1 .0)
 
 pub listing-out : Determines listing.Post (λ κs z e. now (e .1 .1 .0))
-listing-out = equated listing.Post (λ κs z e. now (e .1 .1 .0)) _ (λ κs a z e p. p .1 .1)
+listing-out = equated _ (λ κs a z e p. p .1 .1)
 
 pub first-line-result : Determines first-line.Post (λ κs z e. z)
-first-line-result = equated first-line.Post (λ κs z e. z) _ (λ κs a z e p. p .1 .0)
+first-line-result = equated _ (λ κs a z e p. p .1 .0)
 
 pub first-line-out : Determines first-line.Post (λ κs z e. now (e .1 .0))
-first-line-out = equated first-line.Post (λ κs z e. now (e .1 .0)) _ (λ κs a z e p. p .1 .1)
+first-line-out = equated _ (λ κs a z e p. p .1 .1)
