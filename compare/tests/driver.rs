@@ -1,5 +1,6 @@
 //! The driver finds no difference where there is none and finds planted ones.
 
+use compare::c_peer::CPeer;
 use compare::driver::Driver;
 use compare::peer::{State, Value};
 use compare::plain::Plain;
@@ -114,9 +115,10 @@ impl Subject for Faulty {
     }
 }
 
-#[test]
-fn peer_and_plain_agree() {
-    let mut driver = Driver::new(&Peer, &Plain);
+/// Runs 20,000 cases of a subject against the peer, which must agree and reach every refusal.
+#[track_caller]
+fn agrees_with_the_peer(subject: &dyn Subject) {
+    let mut driver = Driver::new(&Peer, subject);
     for case in 0..20_000 {
         if let Err(difference) = driver.case(5, case) {
             panic!("{difference}");
@@ -125,6 +127,16 @@ fn peer_and_plain_agree() {
     for number in (1..=17).chain([19]) {
         assert!(driver.tally().total(number) >= 20, "refusal {number} is hardly reached");
     }
+}
+
+#[test]
+fn peer_and_plain_agree() {
+    agrees_with_the_peer(&Plain);
+}
+
+#[test]
+fn peer_and_c_agree() {
+    agrees_with_the_peer(&CPeer);
 }
 
 #[test]

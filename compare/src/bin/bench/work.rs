@@ -1,0 +1,141 @@
+//! What is timed: the calls on one message, each a loop that is compiled for each subject.
+
+use compare::samples::{Sample, IDS};
+use compare::subject::{state_of, Opening, Subject, BLANK, READ, VALUE, WRITE};
+use std::hint::black_box;
+
+/// Calls on one message, with the buffers that are lent to them.
+pub trait Work {
+    /// What the calls are called in the table.
+    const NAME: &'static str;
+    /// Whether copying the message is worth timing beside them.
+    const COPIES: bool;
+    /// Makes the calls so many times.
+    fn run<S: Subject>(&mut self, subject: &S, times: u64);
+    /// Copies the message so many times.
+    fn copy(&mut self, _times: u64) {}
+}
+
+/// Reading with a table.
+pub struct Reading<'a> {
+    message: &'a [u8],
+    table: Vec<u32>,
+    answer: [u64; READ],
+}
+
+impl<'a> Reading<'a> {
+    pub fn of(sample: &'a Sample) -> Self {
+        Reading { message: &sample.bytes, table: vec![0; 1536], answer: [0; READ] }
+    }
+}
+
+impl Work for Reading<'_> {
+    const NAME: &'static str = "read";
+    const COPIES: bool = false;
+
+    #[inline(never)]
+    fn run<S: Subject>(&mut self, subject: &S, times: u64) {
+        for _ in 0..times {
+            subject.read(black_box(self.message), &mut self.table, &mut self.answer);
+            black_box((&self.table, &self.answer));
+        }
+    }
+}
+
+/// Blanking.
+pub struct Blanking<'a> {
+    message: &'a [u8],
+    out: Vec<u8>,
+    answer: [u64; BLANK],
+}
+
+impl<'a> Blanking<'a> {
+    pub fn of(sample: &'a Sample) -> Self {
+        let out = vec![0; sample.bytes.len()];
+        Blanking { message: &sample.bytes, out, answer: [0; BLANK] }
+    }
+}
+
+impl Work for Blanking<'_> {
+    const NAME: &'static str = "blank";
+    const COPIES: bool = true;
+
+    #[inline(never)]
+    fn run<S: Subject>(&mut self, subject: &S, times: u64) {
+        for _ in 0..times {
+            subject.blank(black_box(self.message), &mut self.out, &mut self.answer);
+            black_box((&self.out, &self.answer));
+        }
+    }
+
+    #[inline(never)]
+    fn copy(&mut self, times: u64) {
+        for _ in 0..times {
+            self.out.copy_from_slice(black_box(self.message));
+            black_box(&self.out);
+        }
+    }
+}
+
+/// Opening, adding every encoded field and closing.
+pub struct Writing<'a> {
+    opening: Opening<'a>,
+    fields: &'a [Vec<u8>],
+    out: Vec<u8>,
+}
+
+impl<'a> Writing<'a> {
+    pub fn of(sample: &'a Sample) -> Self {
+        let Sample { bytes, fields, .. } = sample;
+        let (ids, count) = (&bytes[IDS], fields.len() as u64);
+        let opening = Opening { ids, number: 124, status: 2, fields: count, kind: Some(1) };
+        Writing { opening, fields, out: vec![0; bytes.len()] }
+    }
+}
+
+impl Work for Writing<'_> {
+    const NAME: &'static str = "write";
+    const COPIES: bool = false;
+
+    #[inline(never)]
+    fn run<S: Subject>(&mut self, subject: &S, times: u64) {
+        for _ in 0..times {
+            let mut answer = [0; WRITE];
+            subject.open(black_box(&self.opening), &mut self.out, &mut answer);
+            for field in self.fields {
+                let state = state_of(&answer);
+                subject.add(state, black_box(field), &mut self.out, &mut answer);
+            }
+            subject.close(state_of(&answer), &mut answer);
+            black_box((&self.out, &answer));
+        }
+    }
+}
+
+/// Asking the value of the last field.
+pub struct Asking<'a> {
+    message: &'a [u8],
+    last: u64,
+    answer: [u64; VALUE],
+}
+
+impl<'a> Asking<'a> {
+    pub fn of(sample: &'a Sample) -> Self {
+        let last = sample.fields.len() as u64 - 1;
+        Asking { message: &sample.bytes, last, answer: [0; VALUE] }
+    }
+}
+
+impl Work for Asking<'_> {
+    const NAME: &'static str = "ask the last of";
+    const COPIES: bool = false;
+
+    #[inline(never)]
+    fn run<S: Subject>(&mut self, subject: &S, times: u64) {
+        for _ in 0..times {
+            let (message, k) = black_box((self.message, self.last));
+            subject.value(message, k, &mut self.answer);
+            black_box(&self.answer);
+        }
+    }
+}
