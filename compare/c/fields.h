@@ -4,7 +4,7 @@
 
 #include "marks.h"
 
-enum { LAST_CODE = 32, BOOLEAN_BLOCK = 512 };
+enum { LAST_CODE = 32, BOOLEAN_BLOCK = 1024 };
 
 /* A field: where its value bytes begin, how many they are, its marks and its values. */
 typedef struct {
@@ -26,6 +26,19 @@ static const Shape SHAPE[LAST_CODE + 1] = {
     {2, PER_COLUMN, 2, 0}, {2, PER_COLUMN, 3, 0},
 };
 
+/* All bits that the bytes of a block have, one over the other, gathered in four quarters side by side. */
+static inline uint8_t block_bits(const uint8_t *bytes) {
+    enum { QUARTER = BOOLEAN_BLOCK / 4 };
+    uint8_t one = 0, two = 0, three = 0, four = 0;
+    for (size_t i = 0; i < QUARTER; i++) {
+        one |= bytes[i];
+        two |= bytes[QUARTER + i];
+        three |= bytes[2 * QUARTER + i];
+        four |= bytes[3 * QUARTER + i];
+    }
+    return one | two | three | four;
+}
+
 /* All bits that so many bytes have, one over the other. */
 static inline uint8_t all_bits(const uint8_t *bytes, size_t size) {
     uint8_t bits = 0;
@@ -43,9 +56,9 @@ static size_t first_above_one(const uint8_t *bytes, size_t at, size_t end) {
     return at;
 }
 
-/* Judges Boolean bytes, a block at a time. */
+/* Judges Boolean bytes, a block at a time, and one by one only where one is wrong. */
 static Verdict judge_booleans(const uint8_t *bytes, size_t at, size_t end) {
-    while (end - at >= BOOLEAN_BLOCK && all_bits(bytes + at, BOOLEAN_BLOCK) <= 1) {
+    while (end - at >= BOOLEAN_BLOCK && block_bits(bytes + at) <= 1) {
         at += BOOLEAN_BLOCK;
     }
     if (end - at < BOOLEAN_BLOCK && all_bits(bytes + at, end - at) <= 1) {

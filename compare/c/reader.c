@@ -9,15 +9,15 @@
 
 #define INLINED inline __attribute__((always_inline))
 
-enum { READ = 21, VALUE = 7, VIEW = 4, BLANK = 3, FRAMES = 8, ROW = 6, PIECE = 16 };
+enum { READ = 21, VALUE = 7, VIEW = 4, BLANK = 3, FRAMES = 8, ROW = 6, PIECE = 64 };
 
 /* What a walk keeps of each field: its row of the table, where its value bytes are, or nothing. */
 typedef struct {
+    uint64_t pair[ROW / 2];
+} Row;
+typedef struct {
     uint32_t first, end;
 } Span;
-typedef struct {
-    uint32_t number[ROW];
-} Row;
 
 /* Judges frame 0 byte by byte, and answers the place after it. */
 static Verdict exact_magic(const uint8_t *bytes, size_t length) {
@@ -104,49 +104,68 @@ static INLINED Verdict judge_header(const uint8_t *bytes, size_t length, size_t 
     return tail;
 }
 
+/* Two numbers of the table that lie side by side. */
+static INLINED uint64_t pair(uint64_t one, uint64_t other) {
+#if __BYTE_ORDER__ == __ORDER_LITTLE_ENDIAN__
+    return one | other << 32;
+#else
+    return one << 32 | other;
+#endif
+}
+
 /* Keeps a field of a message, as a row or as a span, whichever is asked for. */
-static INLINED void keep(Row *row, Span *span, uint32_t code, size_t at, const Field *field) {
+static INLINED void keep(Row *row, Span *span, uint32_t code, size_t at, size_t first, size_t size, size_t marks,
+                         size_t values) {
     if (row != NULL) {
-        *row = (Row){{code, (uint32_t)at, (uint32_t)field->first, (uint32_t)field->size, (uint32_t)field->marks,
-                      (uint32_t)field->values}};
+        row->pair[0] = pair(code, at);
+        row->pair[1] = pair(first, size);
+        row->pair[2] = pair(marks, values);
     }
     if (span != NULL) {
-        *span = (Span){(uint32_t)field->first, (uint32_t)(field->first + field->size)};
+        *span = (Span){(uint32_t)first, (uint32_t)(first + size)};
     }
 }
 
-/* The field of one value, of so many bytes, at a place where they are all there; else what it is is left open. */
+/*
+ * Takes fields of one value of so many bytes for as long as their code is the same: there are often more of a kind. One
+ * that is not all there is left to the exact judge.
+ */
 #define ONE_VALUE(bytes_each)                                                                                          \
-    if (UNLIKELY(length - at < 1 + (bytes_each))) {                                                                    \
-        break;                                                                                                         \
-    }                                                                                                                  \
-    field = (Field){at + 1, bytes_each, 0, 1};                                                                         \
-    keep(rows ? rows + i : NULL, spans ? spans + i : NULL, bytes[at], at, &field);                                     \
-    at += 1 + (bytes_each);                                                                                            \
+    do {                                                                                                               \
+        if (UNLIKELY(length - at < 1 + (bytes_each))) {                                                                \
+            goto exact;                                                                                                \
+        }                                                                                                              \
+        keep(rows ? rows + i : NULL, spans ? spans + i : NULL, code, at, at + 1, bytes_each, 0, 1);                    \
+        at += 1 + (bytes_each);                                                                                        \
+        i++;                                                                                                           \
+    } while (i < fields && at < length && bytes[at] == code);                                                          \
     continue
 
-/* The field of counted values, of so many bytes as a power of two, at a place where they are all there. */
+/* Takes a field of counted values, of so many bytes as a power of two; one with a fault is left to the exact judge. */
 #define COUNTED(shift)                                                                                                 \
     if (UNLIKELY(length - at < 5)) {                                                                                   \
-        break;                                                                                                         \
+        goto exact;                                                                                                    \
     }                                                                                                                  \
-    field = (Field){at + 5, (size_t)four_bytes(bytes + at + 1) << (shift), 0, four_bytes(bytes + at + 1)};             \
-    if (UNLIKELY(field.size > length - field.first || field.values > INT32_MAX)) {                                     \
-        break;                                                                                                         \
+    values = four_bytes(bytes + at + 1);                                                                               \
+    if (UNLIKELY(values > (length - at - 5) >> (shift) || values > INT32_MAX)) {                                       \
+        goto exact;                                                                                                    \
     }                                                                                                                  \
-    keep(rows ? rows + i : NULL, spans ? spans + i : NULL, bytes[at], at, &field);                                     \
-    at = field.first + field.size;                                                                                     \
+    keep(rows ? rows + i : NULL, spans ? spans + i : NULL, code, at, at + 5, values << (shift), 0, values);            \
+    at += 5 + (values << (shift));                                                                                     \
+    i++;                                                                                                               \
     continue
 
 /* Judges so many fields from a place on, keeps what is asked for, and answers the place after them and their marks. */
 static INLINED Verdict walk(const uint8_t *bytes, size_t length, size_t at, size_t fields, size_t *marks, Row *rows,
                             Span *spans) {
+    size_t i = 0, values;
     Field field;
-    for (size_t i = 0; i < fields; i++) {
+    while (i < fields) {
         if (UNLIKELY(at >= length)) {
             return verdict(1, length);
         }
-        switch (bytes[at]) {
+        const uint32_t code = bytes[at];
+        switch (code) {
         case 0: case 7: ONE_VALUE(1);
         case 1: case 8: ONE_VALUE(2);
         case 2: case 4: ONE_VALUE(4);
@@ -157,13 +176,16 @@ static INLINED Verdict walk(const uint8_t *bytes, size_t length, size_t at, size
         case 14: case 16: COUNTED(3);
         default: break;
         }
+    exact:;
         const Verdict judged = judge_field(bytes, length, at, &field);
         if (judged.number != 0) {
             return judged;
         }
-        keep(rows ? rows + i : NULL, spans ? spans + i : NULL, bytes[at], at, &field);
+        keep(rows ? rows + i : NULL, spans ? spans + i : NULL, code, at, field.first, field.size, field.marks,
+             field.values);
         *marks += field.marks;
         at = judged.place;
+        i++;
     }
     return verdict(0, at);
 }
@@ -174,7 +196,7 @@ static INLINED Verdict end(Verdict judged, size_t length) {
 }
 
 /* Gives so many numbers of a refusal: number, place and zeros. */
-static uint32_t refuse(uint64_t *answer, size_t numbers, Verdict judged) {
+static __attribute__((noinline, noclone)) uint32_t refuse(uint64_t *answer, size_t numbers, Verdict judged) {
     answer[0] = judged.number;
     answer[1] = judged.place;
     memset(answer + 2, 0, 8 * (numbers - 2));
@@ -309,34 +331,77 @@ uint32_t reader_view(const uint8_t *restrict message, size_t length, uint64_t k,
     return 0;
 }
 
-/*
- * Copies the bytes before a field's values and clears the values. Both may write up to a piece past their end where the
- * message goes on so far: what comes later is written later.
- */
-static INLINED void renew(const uint8_t *restrict message, size_t length, uint8_t *restrict out, size_t at,
-                          Span values) {
-    const size_t first = values.first, size = values.end - values.first;
-    if (first - at <= PIECE && length - at >= PIECE) {
-        memcpy(out + at, message + at, PIECE);
+/* Copies the beginning of a message, which has 35 bytes at the least, and answers how much of it. */
+static INLINED size_t copy_begin(const uint8_t *restrict message, size_t length, uint8_t *restrict out) {
+    const size_t size = length < 2 * PIECE ? length : 2 * PIECE;
+    if (size >= PIECE) {
+        memcpy(out, message, PIECE);
+        memcpy(out + size - PIECE, message + size - PIECE, PIECE);
     } else {
-        memcpy(out + at, message + at, first - at);
+        memcpy(out, message, PIECE / 2);
+        memcpy(out + size - PIECE / 2, message + size - PIECE / 2, PIECE / 2);
     }
-    if (size <= PIECE && length - first >= PIECE) {
-        memset(out + first, 0, PIECE);
+    return size;
+}
+
+/* Copies from a place on until another is reached or passed, by one piece where that is enough; answers how far. */
+static INLINED size_t copy_on(const uint8_t *restrict message, size_t length, uint8_t *restrict out, size_t at,
+                              size_t end) {
+    if (end - at <= PIECE && length - at >= PIECE) {
+        memcpy(out + at, message + at, PIECE);
+        return at + PIECE;
+    }
+    memcpy(out + at, message + at, end - at);
+    return end;
+}
+
+/* Clears the value bytes of a field. */
+static INLINED void clear(uint8_t *values, size_t size) {
+    if (size == 1) {
+        values[0] = 0;
+    } else if (size == 2) {
+        memset(values, 0, 2);
+    } else if (size == 4) {
+        memset(values, 0, 4);
+    } else if (size == 8) {
+        memset(values, 0, 8);
     } else {
-        memset(out + first, 0, size);
+        memset(values, 0, size);
+    }
+}
+
+/*
+ * Copies a message with these value bytes cleared. Pieces are copied ahead of the fields in them, which are then
+ * cleared; the values of a long field are not copied, but for those in a piece that begins before it.
+ */
+static INLINED void copy_blank(const uint8_t *restrict message, size_t length, uint8_t *restrict out,
+                               const Span *spans, size_t fields) {
+    size_t copied = copy_begin(message, length, out);
+    for (size_t i = 0; i < fields; i++) {
+        const size_t first = spans[i].first, end = spans[i].end;
+        if (UNLIKELY(copied < end)) {
+            if (end - first <= PIECE) {
+                copied = copy_on(message, length, out, copied, end);
+            } else {
+                memcpy(out + copied, message + copied, copied < first ? first - copied : 0);
+                copied = end;
+            }
+        }
+        clear(out + first, end - first);
+    }
+    if (UNLIKELY(copied < length)) {
+        memcpy(out + copied, message + copied, length - copied);
     }
 }
 
 uint32_t reader_blank(const uint8_t *restrict message, size_t length, uint8_t *restrict out, size_t out_len,
                       uint64_t *restrict answer, size_t answer_len) {
-    size_t fields = 0, marks = 0, at = 0;
+    size_t fields = 0, marks = 0;
     Span spans[MOST_FIELDS];
     if (answer_len < BLANK) {
         return TOO_SHORT;
     }
     Verdict judged = judge_header(message, length, &fields, NULL);
-    const size_t header = judged.place;
     if (judged.number == 0) {
         judged = end(walk(message, length, judged.place, fields, &marks, NULL, spans), length);
     }
@@ -346,12 +411,7 @@ uint32_t reader_blank(const uint8_t *restrict message, size_t length, uint8_t *r
     if (UNLIKELY(judged.number != 0)) {
         return refuse(answer, BLANK, judged);
     }
-    memcpy(out, message, header);
-    at = header;
-    for (size_t i = 0; i < fields; i++) {
-        renew(message, length, out, at, spans[i]);
-        at = spans[i].end;
-    }
+    copy_blank(message, length, out, spans, fields);
     answer[0] = 0;
     answer[1] = 0;
     answer[2] = length;
