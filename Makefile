@@ -1,9 +1,10 @@
 # make: prove what `list` stands on and list a sample message. make check: prove all the rest, and run every program.
 # make test: the gate, from nothing, with the must-fail edits and the bindings' tests. make calls: every public call
 # with its contract and with what is determined: its result, and each buffer. make example: the C example, built for
-# this machine and run. make compare: a million cases of the library against the independent reader in compare/. make
-# bench: how fast both are, side by side. make versus BEFORE=FILE: how fast the library is beside an earlier one, FILE
-# being the libsim0mq.a of another checkout.
+# this machine and run. make compare: a million cases of the library against the independent reader in compare/, and as
+# many of the second one, in C, against it. make bench: how fast the three are, side by side, written into
+# docs/SPEED.md and docs/growth.svg. make versus BEFORE=FILE: how fast the library is beside an earlier one, FILE being
+# the libsim0mq.a of another checkout.
 .PHONY: all check test calls bindings example compare bench versus
 
 PEER = cd compare && SIM0MQ_LIB_DIR=$(CURDIR)/target/native CARGO_TARGET_DIR=$(CURDIR)/target/native/compare cargo run --release --offline --quiet --features product
@@ -32,10 +33,11 @@ example: target/native/libsim0mq.a
 	@target/native/example
 
 compare: target/native/libsim0mq.a
-	@$(PEER) --bin compare -- 1 1000000
+	@$(PEER) --bin compare -- peer product 1 1000000
+	@$(PEER) --bin compare -- peer c 1 1000000
 
 bench: target/native/libsim0mq.a
-	@$(PEER) --bin bench -- peer product
+	@$(PEER) --bin bench -- $(CURDIR)/docs/SPEED.md $(CURDIR)/docs/growth.svg
 
 SHARED = cc -shared -Wl,--whole-archive
 

@@ -10,30 +10,38 @@ const HIGH: f64 = 260.0;
 const LEFT: f64 = 66.0;
 const ABOVE: f64 = 40.0;
 const BELOW: f64 = 52.0;
-const BESIDE: f64 = 14.0;
+const BESIDE: f64 = 30.0;
 /// The height of the legend above all of it.
 const LEGEND: f64 = 58.0;
 
-/// Colours that are told apart on a light and on a dark ground, and by their shades too.
+/// Colours for a light ground, and others for a dark one where that is asked for. Shapes tell the lines apart too.
 const STYLE: &str = "
-  svg { --ground: #ffffff; --ink: #1f2328; --rule: #d9dde2; --grey: #6e7781;
-        --library: #0b5cd6; --rust: #c2410c; --c: #17803d; }
-  @media (prefers-color-scheme: dark) {
-    svg { --ground: #0d1117; --ink: #e6edf3; --rule: #30363d; --grey: #9198a1;
-          --library: #6cb0ff; --rust: #ff9b5e; --c: #5fd38a; }
-  }
-  .ground { fill: var(--ground); }
-  text { fill: var(--ink); font: 12px system-ui, -apple-system, 'Segoe UI', Helvetica, Arial, sans-serif; }
+  .ground { fill: #ffffff; }
+  text { fill: #1f2328; font: 12px system-ui, -apple-system, 'Segoe UI', Helvetica, Arial, sans-serif; }
   .title { font-size: 14px; font-weight: 600; }
-  .rule { stroke: var(--rule); stroke-width: 1; }
-  .edge { stroke: var(--ink); stroke-width: 1; fill: none; }
-  .library { color: var(--library); } .rust { color: var(--rust); }
-  .c { color: var(--c); } .memcpy { color: var(--grey); }
+  .rule { stroke: #d9dde2; stroke-width: 1; }
+  .edge { stroke: #1f2328; stroke-width: 1; fill: none; }
+  .library { color: #0b5cd6; }
+  .rust { color: #c2410c; }
+  .c { color: #17803d; }
+  .memcpy { color: #6e7781; }
   .line { stroke: currentColor; stroke-width: 1.8; fill: none; }
   .spread { stroke: currentColor; stroke-width: 1; }
-  .mark { stroke: currentColor; stroke-width: 1.4; fill: var(--ground); }
+  .mark { stroke: currentColor; stroke-width: 1.4; fill: #ffffff; }
   .full { fill: currentColor; }
   .dashed { stroke-dasharray: 5 4; }
+  @media (prefers-color-scheme: dark) {
+    .ground { fill: #0d1117; }
+    text { fill: #e6edf3; }
+    .rule { stroke: #30363d; }
+    .edge { stroke: #e6edf3; }
+    .library { color: #6cb0ff; }
+    .rust { color: #ff9b5e; }
+    .c { color: #5fd38a; }
+    .memcpy { color: #9198a1; }
+    .mark { fill: #0d1117; }
+    .full { fill: currentColor; }
+  }
 ";
 
 /// A logarithmic axis: its ends, and how far it goes.

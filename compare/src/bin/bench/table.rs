@@ -11,8 +11,8 @@ const END: &str = "<!-- the table of `make bench` ends -->\n";
 
 /// Times every row, prints it, and answers the whole table.
 pub fn table() -> String {
-    let processor = processor();
-    let mut lines = vec![format!("One core of {processor}, {ROUNDS} rounds a row."), String::new()];
+    let mut lines =
+        vec![format!("One core, {}; {ROUNDS} rounds a row.", processor()), String::new()];
     lines.push(
         "| Call | Bytes | Library, ns | Library over Rust | Library over C | Library over `memcpy` \
          | Rust over `memcpy` | C over `memcpy` |"
@@ -72,5 +72,5 @@ fn shown(Spread { lower, median, upper }: Spread) -> String {
 fn processor() -> String {
     let told = fs::read_to_string("/proc/cpuinfo").unwrap_or_default();
     let name = told.lines().find_map(|line| line.strip_prefix("model name")?.split_once(": "));
-    name.map_or("an unnamed processor".to_owned(), |(_, name)| format!("an {name}"))
+    name.map_or("of an unnamed processor".to_owned(), |(_, name)| name.to_owned())
 }

@@ -1,4 +1,5 @@
-//! What is timed: the calls on one message, each a loop that is compiled for each subject.
+//! What is timed: the calls on one message, each a loop that is compiled for each subject. What a call is
+//! lent goes through [`black_box`], so that none is compiled for the lengths of these buffers.
 
 use compare::samples::{Sample, IDS};
 use compare::subject::{state_of, Opening, Subject, BLANK, READ, VALUE, WRITE};
@@ -36,7 +37,8 @@ impl Work for Reading<'_> {
     #[inline(never)]
     fn run<S: Subject>(&mut self, subject: &S, times: u64) {
         for _ in 0..times {
-            subject.read(black_box(self.message), &mut self.table, &mut self.answer);
+            let answer = black_box(&mut self.answer[..]);
+            subject.read(black_box(self.message), &mut self.table, answer);
             black_box((&self.table, &self.answer));
         }
     }
@@ -63,7 +65,8 @@ impl Work for Blanking<'_> {
     #[inline(never)]
     fn run<S: Subject>(&mut self, subject: &S, times: u64) {
         for _ in 0..times {
-            subject.blank(black_box(self.message), &mut self.out, &mut self.answer);
+            let answer = black_box(&mut self.answer[..]);
+            subject.blank(black_box(self.message), &mut self.out, answer);
             black_box((&self.out, &self.answer));
         }
     }
@@ -82,6 +85,7 @@ pub struct Writing<'a> {
     opening: Opening<'a>,
     fields: &'a [Vec<u8>],
     out: Vec<u8>,
+    answer: [u64; WRITE],
 }
 
 impl<'a> Writing<'a> {
@@ -89,7 +93,7 @@ impl<'a> Writing<'a> {
         let Sample { bytes, fields, .. } = sample;
         let (ids, count) = (&bytes[IDS], fields.len() as u64);
         let opening = Opening { ids, number: 124, status: 2, fields: count, kind: Some(1) };
-        Writing { opening, fields, out: vec![0; bytes.len()] }
+        Writing { opening, fields, out: vec![0; bytes.len()], answer: [0; WRITE] }
     }
 }
 
@@ -100,14 +104,13 @@ impl Work for Writing<'_> {
     #[inline(never)]
     fn run<S: Subject>(&mut self, subject: &S, times: u64) {
         for _ in 0..times {
-            let mut answer = [0; WRITE];
-            subject.open(black_box(&self.opening), &mut self.out, &mut answer);
+            let answer = black_box(&mut self.answer[..]);
+            subject.open(black_box(&self.opening), &mut self.out, answer);
             for field in self.fields {
-                let state = state_of(&answer);
-                subject.add(state, black_box(field), &mut self.out, &mut answer);
+                subject.add(state_of(answer), black_box(field), &mut self.out, answer);
             }
-            subject.close(state_of(&answer), &mut answer);
-            black_box((&self.out, &answer));
+            subject.close(state_of(answer), answer);
+            black_box((&self.out, &self.answer));
         }
     }
 }
@@ -134,7 +137,7 @@ impl Work for Asking<'_> {
     fn run<S: Subject>(&mut self, subject: &S, times: u64) {
         for _ in 0..times {
             let (message, k) = black_box((self.message, self.last));
-            subject.value(message, k, &mut self.answer);
+            subject.value(message, k, black_box(&mut self.answer[..]));
             black_box(&self.answer);
         }
     }
