@@ -1,9 +1,11 @@
 //! What is timed: the calls on one message, each a loop that is compiled for each subject. What a call is
 //! lent goes through [`black_box`], so that none is compiled for the lengths of these buffers.
 
+use compare::peer::State;
 use compare::samples::{Sample, IDS};
-use compare::subject::{state_of, Opening, Subject, BLANK, READ, VALUE, WRITE};
+use compare::subject::{Opening, Subject, BLANK, READ, VALUE, WRITE};
 use std::hint::black_box;
+use std::ptr;
 
 /// Calls on one message, with the buffers that are lent to them.
 pub trait Work {
@@ -97,6 +99,15 @@ impl<'a> Writing<'a> {
     }
 }
 
+/// The state in an answer, taken number by number, as a caller in C takes it. Two of them loaded at once
+/// would have to wait until both, stored one by one, had reached memory.
+#[inline(always)]
+fn state(answer: &[u64]) -> State {
+    // SAFETY: a reference to a number is a place to read one from.
+    let number = |place: usize| unsafe { ptr::read_volatile(&answer[place]) };
+    State { written: number(3), declared: number(4), added: number(5), closed: number(6) != 0 }
+}
+
 impl Work for Writing<'_> {
     const NAME: &'static str = "write";
     const COPIES: bool = false;
@@ -107,9 +118,9 @@ impl Work for Writing<'_> {
             let answer = black_box(&mut self.answer[..]);
             subject.open(black_box(&self.opening), &mut self.out, answer);
             for field in self.fields {
-                subject.add(state_of(answer), black_box(field), &mut self.out, answer);
+                subject.add(state(answer), black_box(field), &mut self.out, answer);
             }
-            subject.close(state_of(answer), answer);
+            subject.close(state(answer), answer);
             black_box((&self.out, &self.answer));
         }
     }
