@@ -1,12 +1,18 @@
-//! An independent reader, blanker and writer of typed big-endian messages.
+//! An independent reader, blanker and writer of typed big-endian messages, and
+//! what is built on them: recordings, commands, sums, senders and the ledger.
 //!
-//! Nothing here allocates. A refused call leaves every lent buffer and the
-//! writer's state as they were.
+//! Nothing here allocates. A refused call leaves every lent buffer and every
+//! state as they were.
 
+pub mod commands;
 mod header;
+pub mod ledger;
 mod payload;
+pub mod recordings;
 mod refusal;
 mod scalar;
+pub mod senders;
+pub mod sums;
 mod unit;
 mod writer;
 
@@ -92,13 +98,14 @@ fn begin(message: &[u8]) -> Result<Header, Refusal> {
     header::read(message)
 }
 
-/// Judges the payload and shows each field, with its number, to `each`.
+/// Judges the fields, shows each with its number to `each`, and answers the
+/// place after them and the number of their marks.
 #[inline]
-fn accept(
+fn walk(
     message: &[u8],
     header: &Header,
     mut each: impl FnMut(usize, &Field),
-) -> Result<Reading, Refusal> {
+) -> Result<(usize, usize), Refusal> {
     let mut place = header.end;
     let mut marks = 0;
     for number in 0..header.fields {
@@ -107,6 +114,42 @@ fn accept(
         marks += field.marks;
         place = field.end();
     }
+    Ok((place, marks))
+}
+
+/// The length of the accepted message that the bytes begin with.
+///
+/// Where there is none, the refusal of reading the bytes, cut at the limit.
+fn front(bytes: &[u8]) -> Result<usize, Refusal> {
+    let bytes = &bytes[..bytes.len().min(MOST_BYTES)];
+    let header = header::read(bytes)?;
+    walk(bytes, &header, |_, _| ()).map(|(end, _)| end)
+}
+
+/// The header of a message that is accepted as a whole.
+fn accepted(message: &[u8]) -> Result<Header, Refusal> {
+    let header = begin(message)?;
+    accept(message, &header, |_, _| ()).map(|_| header)
+}
+
+/// The fields of an accepted message.
+fn fields<'a>(message: &'a [u8], header: &Header) -> impl Iterator<Item = Field> + 'a {
+    let mut place = header.end;
+    (0..header.fields).map_while(move |_| {
+        let field = payload::judge(message, place).ok()?;
+        place = field.end();
+        Some(field)
+    })
+}
+
+/// Judges the payload and shows each field, with its number, to `each`.
+#[inline]
+fn accept(
+    message: &[u8],
+    header: &Header,
+    each: impl FnMut(usize, &Field),
+) -> Result<Reading, Refusal> {
+    let (place, marks) = walk(message, header, each)?;
     if place < message.len() {
         return Err(Refusal::new(13, place));
     }

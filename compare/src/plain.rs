@@ -5,7 +5,7 @@
 
 use crate::peer::{Reading, Refusal, State, Value};
 use crate::subject::{
-    give, reading_numbers, refused, writer_numbers, Opening, Subject, BLANK, VALUE, VIEW,
+    give, reading_numbers, refused, value_numbers, writer_numbers, Opening, Subject, BLANK, VIEW,
 };
 
 type Judged<T> = Result<T, Refusal>;
@@ -393,12 +393,7 @@ impl Subject for Plain {
     }
 
     fn value(&self, message: &[u8], k: u64, answer: &mut [u64]) -> u32 {
-        give::<VALUE>(answer, || match ask(message, k).and_then(|field| scalar(message, field)) {
-            Err(refusal) => refused(refusal),
-            Ok(Value { kind, bits, unit, currency, display }) => {
-                [0, 0, kind.into(), bits, unit.into(), currency.into(), display.into()]
-            }
-        })
+        give(answer, || value_numbers(ask(message, k).and_then(|field| scalar(message, field))))
     }
 
     fn view(&self, message: &[u8], k: u64, answer: &mut [u64]) -> u32 {

@@ -1,5 +1,12 @@
 //! What is compared: the public calls with all answers as plain numbers.
 
+mod parts;
+
+pub(crate) use parts::{
+    one_number, reckoning_numbers, recorder_numbers, salvage_numbers, value_numbers,
+};
+pub use parts::{recorder_of, Parts};
+
 use crate::peer::{self, Reading, Refusal, State, Value};
 
 /// Numbers in the answer of reading and judging: number, place, length,
@@ -15,6 +22,27 @@ pub const BLANK: usize = 3;
 /// Numbers in the answers of the writer: number, place, length, written,
 /// declared, added, closed.
 pub const WRITE: usize = 7;
+/// Numbers in the answer of opening a recording: number, place, messages.
+pub const RECORDING: usize = 3;
+/// Numbers in the answer of asking for a message: number, place, start, length.
+pub const MESSAGE: usize = 4;
+/// Numbers in the answers of the recorder: number, place, length, written,
+/// messages, closed.
+pub const RECORD: usize = 6;
+/// Numbers in the answer of salvage: number, place, length, kept, dropped, why
+/// it stopped (0 the end, 1 as many messages as there may be, 2 a refusal),
+/// number and place of that refusal.
+pub const SALVAGE: usize = 8;
+/// Numbers in the answer of a command: number, place, command.
+pub const COMMAND: usize = 3;
+/// Numbers in the answers of taking and mustering: number, place, the
+/// sender's place in the book.
+pub const TAKE: usize = 3;
+/// Numbers in the answer of closing a sender: number, place, whether it was held.
+pub const FORGET: usize = 3;
+/// Numbers in the answer of reckoning: number, place, applied, refused, then
+/// the heads on each deck.
+pub const RECKON: usize = 20;
 /// What a call returns where the lent answer is too short; it writes nothing.
 pub const SHORT: u32 = 255;
 
@@ -130,12 +158,7 @@ impl Subject for Peer {
 
     #[inline(never)]
     fn value(&self, message: &[u8], k: u64, answer: &mut [u64]) -> u32 {
-        give::<VALUE>(answer, || match peer::value(message, k) {
-            Err(refusal) => refused(refusal),
-            Ok(Value { kind, bits, unit, currency, display }) => {
-                [0, 0, kind.into(), bits, unit.into(), currency.into(), display.into()]
-            }
-        })
+        give(answer, || value_numbers(peer::value(message, k)))
     }
 
     #[inline(never)]

@@ -18,6 +18,25 @@ pub(super) struct Header {
     pub end: usize,
 }
 
+impl Header {
+    /// The bytes of frame `k`, which is not the last.
+    pub fn frame<'a>(&self, message: &'a [u8], k: usize) -> &'a [u8] {
+        &message[self.frames[k].0 as usize..self.frames[k + 1].0 as usize]
+    }
+
+    /// The type code and the value bytes of id frame `k`, 1 to 4.
+    pub fn id<'a>(&self, message: &'a [u8], k: usize) -> (u8, &'a [u8]) {
+        let frame = self.frame(message, k);
+        let first = if frame[0] < 9 { 1 } else { 5 };
+        (frame[0], &frame[first..])
+    }
+
+    /// The status.
+    pub fn status(&self, message: &[u8]) -> u8 {
+        self.frame(message, 6)[1]
+    }
+}
+
 /// Reads the header of a message.
 #[inline]
 pub(super) fn read(message: &[u8]) -> Result<Header, Refusal> {

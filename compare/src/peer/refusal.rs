@@ -5,14 +5,14 @@ use std::fmt;
 /// Why a call was refused and where.
 #[derive(Clone, Copy, Debug, PartialEq, Eq, Hash)]
 pub struct Refusal {
-    /// 1 to 17, or 19.
+    /// 1 to 31.
     pub number: u32,
     /// The place that the number's rule names.
     pub place: u64,
 }
 
 /// What each refusal number means; entry 0 stands for acceptance.
-pub const MEANINGS: [&str; 20] = [
+pub const MEANINGS: [&str; 32] = [
     "accepted",
     "the bytes end before the item being read",
     "frame 0 has a wrong byte or no digit",
@@ -28,11 +28,23 @@ pub const MEANINGS: [&str; 20] = [
     "a display code is outside its range",
     "bytes follow the last item",
     "the lent output is too short",
-    "the call does not fit the writer's state",
-    "there is no such field",
+    "the call does not fit the state",
+    "there is no such field or message",
     "the value is not of the kind asked or allowed",
-    "not a number of any call",
+    "the trailer or the index of a recording is wrong",
     "a currency code is not listed",
+    "the message type is unknown",
+    "the status or the number of fields is wrong",
+    "a field's code is wrong",
+    "a string is empty or not one of its words",
+    "the quantities cannot be combined",
+    "an operand or the result is infinite or a NaN",
+    "the sender's id is too long",
+    "the message's number is not greater",
+    "the book is full",
+    "there is no such deck",
+    "no head is on the deck left",
+    "the deck joined is full",
 ];
 
 impl Refusal {

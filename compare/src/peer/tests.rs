@@ -2,7 +2,12 @@
 //! reasonable.
 
 mod asking;
+mod commands;
+mod ledger;
 mod reading;
+mod recordings;
+mod senders;
+mod sums;
 mod writing;
 
 use super::{read, Reading, Refusal};
@@ -34,6 +39,21 @@ fn with_payload(payload: &[u8]) -> Vec<u8> {
 /// `S` with another count frame and payload.
 fn with_fields(count: u16, payload: &[u8]) -> Vec<u8> {
     [&S[..66], &count.to_be_bytes(), payload].concat()
+}
+
+/// An encoded 8-bit string.
+fn text(characters: &[u8]) -> Vec<u8> {
+    [&[9][..], &(characters.len() as u32).to_be_bytes(), characters].concat()
+}
+
+/// A message with these encoded sender and type ids and these encoded fields.
+///
+/// Its run id and receiver are 16-bit numbers, so its sender frame is at 13.
+fn sent(sender: &[u8], type_id: &[u8], number: i64, status: u8, fields: &[&[u8]]) -> Vec<u8> {
+    let number = number.to_be_bytes();
+    let count = (fields.len() as u16).to_be_bytes();
+    let head = [&S[..10], &[1, 0, 7], sender, &[1, 0, 8], type_id, &[3], &number, &[0, status, 1]];
+    [&head.concat(), &count[..], &fields.concat()].concat()
 }
 
 /// The answer without a table and, the same, with a table that has room.
