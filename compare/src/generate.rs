@@ -1,16 +1,25 @@
 //! Seeded inputs: messages sound and damaged, tables, rooms, questions and
-//! everything a writing session takes.
+//! everything a writing session takes; recordings, commands, operands of sums,
+//! and runs of messages for the book and the ledger.
 
+mod command;
 mod field;
 mod message;
+mod operands;
+mod recording;
+mod run;
 
+pub use command::command;
 pub use field::{field, scalar, sized_field, FieldFault};
 pub use message::{header_ids, message, sound_message, Message};
+pub use operands::operands;
+pub use recording::{forged_recorder, recorded_message, recording, Recording};
+pub use run::{forge_book, forge_ledger, Run};
 
 use crate::peer::State;
 use crate::random::Random;
 
-/// The longest buffer any case uses.
+/// The longest buffer any case of messages uses.
 pub const MOST_ROOM: usize = 73_000;
 
 /// The length of a lent table for a message that declares `fields` fields.
@@ -26,7 +35,19 @@ pub fn table_length(random: &mut Random, fields: u64) -> usize {
     }
 }
 
-/// A field number to ask for, mostly one that is there.
+/// The length of a lent table for a recording of so many messages.
+pub fn messages_table(random: &mut Random, messages: u64) -> usize {
+    let exact = 2 * messages as usize;
+    match random.share(&[55, 10, 20, 5, 10]) {
+        0 => exact,
+        1 => exact.saturating_sub(1),
+        2 => exact + random.index(9),
+        3 => 0,
+        _ => random.index(exact + 2),
+    }
+}
+
+/// The number of a field or message to ask for, mostly one that is there.
 pub fn asked(random: &mut Random, fields: u64) -> u64 {
     match random.share(&[70, 8, 8, 4, 4, 6]) {
         0 if fields > 0 => random.below(fields),
@@ -47,17 +68,21 @@ pub fn asked(random: &mut Random, fields: u64) -> u64 {
     }
 }
 
-/// A room for something of `length` bytes: exact, one short, larger, smaller.
+/// A room for a message of `length` bytes, no more than any case of messages uses.
 pub fn room(random: &mut Random, length: usize) -> usize {
-    let room = match random.share(&[40, 12, 30, 6, 6, 6]) {
+    any_room(random, length).min(MOST_ROOM)
+}
+
+/// A room for something of `length` bytes: exact, one short, larger, smaller.
+pub fn any_room(random: &mut Random, length: usize) -> usize {
+    match random.share(&[40, 12, 30, 6, 6, 6]) {
         0 => length,
         1 => length.saturating_sub(1),
         2 => length + random.index(60),
         3 => random.index(length + 1),
         4 => length + 1,
         _ => 0,
-    };
-    room.min(MOST_ROOM)
+    }
 }
 
 /// The length of a lent answer that needs `wanted` numbers.

@@ -1,15 +1,17 @@
-//! `compare ONE TWO SEED CASES [FIRST]`: compares two subjects on generated cases.
+//! `compare [parts] ONE TWO SEED CASES [FIRST]`: compares two subjects on generated cases.
 //!
-//! The subjects are `peer`, the reader in Rust, `c`, the one in C, `plain`, a model of the rules, and,
-//! where it is linked in, `product`, the library. Stops at the first difference. `FIRST` is the
-//! number of the first case, so that one case of a run can be run again alone.
+//! The cases are about one message, or with `parts` about what is built on messages. The subjects
+//! are `peer`, the reader in Rust, `c`, the one in C, which has no parts, `plain`, a model of the
+//! rules, and, where it is linked in, `product`, the library. Stops at the first difference.
+//! `FIRST` is the number of the first case, so that one case of a run can be run again alone.
 
 use compare::c_peer::CPeer;
-use compare::driver::Driver;
+use compare::driver::{Difference, Driver, PartsDriver};
 use compare::plain::Plain;
 #[cfg(feature = "product")]
 use compare::product::Product;
-use compare::subject::{Peer, Subject};
+use compare::subject::{Parts, Peer, Subject};
+use compare::tally::Tally;
 use std::env;
 use std::process::ExitCode;
 use std::time::{Duration, Instant};
@@ -18,19 +20,40 @@ use std::time::{Duration, Instant};
 const BATCH: u64 = 256;
 
 fn main() -> ExitCode {
-    let words: Vec<String> = env::args().skip(1).collect();
-    let Some((subjects, [seed, cases, first])) = asked(&words) else {
+    let mut words: Vec<String> = env::args().skip(1).collect();
+    let of_parts = words.first().is_some_and(|word| word == "parts");
+    words.drain(..usize::from(of_parts));
+    let ended = if of_parts { compare_parts(&words) } else { compare_messages(&words) };
+    ended.unwrap_or_else(|| {
         eprintln!(
-            "usage: compare ONE TWO SEED CASES [FIRST], ONE and TWO of peer, c, plain, product"
+            "usage: compare [parts] ONE TWO SEED CASES [FIRST], ONE and TWO of peer, c, plain, product"
         );
-        return ExitCode::from(2);
-    };
-    println!("{} and {}, seed {seed}", subjects[0].name(), subjects[1].name());
-    run(subjects, seed, cases, first)
+        ExitCode::from(2)
+    })
 }
 
-/// The two subjects and the three numbers in the words, if they are what they should be.
-fn asked(words: &[String]) -> Option<([&'static dyn Subject; 2], [u64; 3])> {
+/// Compares on messages, if the words say what.
+fn compare_messages(words: &[String]) -> Option<ExitCode> {
+    let (one, two, [seed, cases, first]) = asked(words)?;
+    let (one, two) = (subject(one)?, subject(two)?);
+    println!("{} and {}, seed {seed}", one.name(), two.name());
+    let mut driver = Driver::new(one, two);
+    let ran = run(cases, |done| driver.case(seed, first.wrapping_add(done)));
+    Some(report(cases, ran, driver.tally()))
+}
+
+/// Compares on what is built on messages, if the words say what.
+fn compare_parts(words: &[String]) -> Option<ExitCode> {
+    let (one, two, [seed, cases, first]) = asked(words)?;
+    let (one, two) = (parts(one)?, parts(two)?);
+    println!("{} and {}, seed {seed}", one.name(), two.name());
+    let mut driver = PartsDriver::new(one, two);
+    let ran = run(cases, |done| driver.case(seed, first.wrapping_add(done)));
+    Some(report(cases, ran, driver.tally()))
+}
+
+/// The names of the two subjects and the three numbers in the words, if they are what they should be.
+fn asked(words: &[String]) -> Option<(&str, &str, [u64; 3])> {
     let [one, two, numbers @ ..] = words else {
         return None;
     };
@@ -40,7 +63,7 @@ fn asked(words: &[String]) -> Option<([&'static dyn Subject; 2], [u64; 3])> {
         [seed, cases, first] => [seed, cases, first],
         _ => return None,
     };
-    Some(([subject(one)?, subject(two)?], numbers))
+    Some((one, two, numbers))
 }
 
 /// The subject of this name, if it is there.
@@ -55,25 +78,42 @@ fn subject(name: &str) -> Option<&'static dyn Subject> {
     }
 }
 
-/// Runs the cases and prints what was reached.
-fn run([one, two]: [&dyn Subject; 2], seed: u64, cases: u64, first: u64) -> ExitCode {
-    let mut driver = Driver::new(one, two);
+/// The subject of this name that has the parts, if it is there.
+fn parts(name: &str) -> Option<&'static dyn Parts> {
+    match name {
+        "peer" => Some(&Peer),
+        "plain" => Some(&Plain),
+        _ => None,
+    }
+}
+
+/// Runs the cases up to the first difference, which comes with its number.
+fn run(
+    cases: u64,
+    mut case: impl FnMut(u64) -> Result<(), Difference>,
+) -> Result<(), (u64, Difference)> {
     let start = Instant::now();
     let mut shown = start;
     for done in 0..cases {
-        if let Err(difference) = driver.case(seed, first.wrapping_add(done)) {
-            println!("{difference}");
-            println!("{done} cases, 1 difference");
-            return ExitCode::FAILURE;
-        }
+        case(done).map_err(|difference| (done, difference))?;
         if done % BATCH == 0 && shown.elapsed() >= Duration::from_secs(1) {
             shown = Instant::now();
             eprintln!("{done} cases, {} a minute", per_minute(done, start));
         }
     }
     eprintln!("{cases} cases, {} a minute", per_minute(cases, start));
-    print!("{}", driver.tally());
-    let (number, times) = driver.tally().least();
+    Ok(())
+}
+
+/// Prints what was reached, or the difference.
+fn report(cases: u64, ran: Result<(), (u64, Difference)>, tally: &Tally) -> ExitCode {
+    if let Err((done, difference)) = ran {
+        println!("{difference}");
+        println!("{done} cases, 1 difference");
+        return ExitCode::FAILURE;
+    }
+    print!("{tally}");
+    let (number, times) = tally.least();
     println!("least reached: refusal {number}, {times} times");
     println!("{cases} cases, 0 differences");
     ExitCode::SUCCESS

@@ -3,6 +3,11 @@
 //! It takes items off the front of a message in 128-bit arithmetic, keeps
 //! lists, and judges a scalar by encoding it and asking for it again.
 
+mod parts;
+mod sums;
+
+pub use parts::COMMANDS;
+
 use crate::peer::{Reading, Refusal, State, Value};
 use crate::subject::{
     give, reading_numbers, refused, value_numbers, writer_numbers, Opening, Subject, BLANK, VIEW,

@@ -1,6 +1,7 @@
 //! Writing sessions and rewritings.
 
-use super::{hex, Answer, Difference, Driver, MOST_ANSWER};
+use super::pair::{hex, MOST_ANSWER};
+use super::{Answer, Difference, Driver};
 use crate::generate::{self, FieldFault};
 use crate::peer::{self, State};
 use crate::random::Random;
@@ -61,10 +62,10 @@ impl Driver<'_> {
             1 => header + random.index(600),
             _ => header + random.index(generate::MOST_ROOM - 1000 - header.min(71_000)),
         };
-        self.lend(random, 0, room);
+        self.pair.lend(random, 0, room);
         let numbers = generate::answer_length(random, WRITE, MOST_ANSWER);
         let input = || format!("{opening:?}\nids {}\nroom {room}", hex(opening.ids));
-        let (returned, answer) = self.call(Call::Open, input, |subject, lent| {
+        let (returned, answer) = self.pair.call(Call::Open, input, |subject, lent| {
             subject.open(&opening, &mut lent.out[..room], &mut lent.answer[..numbers])
         })?;
         self.ids = ids;
@@ -98,7 +99,7 @@ impl Driver<'_> {
         let room = self.room_for(random, session, field.len());
         let numbers = generate::answer_length(random, WRITE, MOST_ANSWER);
         let input = || format!("{state:?}\nfield {}\nroom {room}", hex(&field));
-        let answered = self.call(Call::Add, input, |subject, lent| {
+        let answered = self.pair.call(Call::Add, input, |subject, lent| {
             subject.add(state, &field, &mut lent.out[..room], &mut lent.answer[..numbers])
         })?;
         self.field = field;
@@ -117,14 +118,14 @@ impl Driver<'_> {
         let room = self.room_for(random, session, size);
         let numbers = generate::answer_length(random, WRITE, MOST_ANSWER);
         let input = || format!("{state:?}\n{value:?}\nroom {room}");
-        self.call(Call::AddScalar, input, |subject, lent| {
+        self.pair.call(Call::AddScalar, input, |subject, lent| {
             subject.add_scalar(state, value, &mut lent.out[..room], &mut lent.answer[..numbers])
         })
     }
 
     /// The usual room of a session, now and then one around what is needed.
     fn room_for(&self, random: &mut Random, session: &Session, size: usize) -> usize {
-        let most = self.lent_one.out.len();
+        let most = self.pair.lent_one.out.len();
         if random.chance(85) {
             return session.room;
         }
@@ -136,18 +137,18 @@ impl Driver<'_> {
     fn closing(&mut self, random: &mut Random, session: Session) -> Result<(), Difference> {
         let state = session.state;
         let numbers = generate::answer_length(random, WRITE, MOST_ANSWER);
-        let (returned, answer) = self.call(
+        let (returned, answer) = self.pair.call(
             Call::Close,
             || format!("{state:?}"),
             |subject, lent| subject.close(state, &mut lent.answer[..numbers]),
         )?;
         let length = answer[2] as usize;
-        if returned != 0 || length > self.lent_one.out.len() {
+        if returned != 0 || length > self.pair.lent_one.out.len() {
             return Ok(());
         }
-        let message = self.lent_one.out[..length].to_vec();
+        let message = self.pair.lent_one.out[..length].to_vec();
         let input = || format!("written message {}", hex(&message));
-        let (number, read) = self.call(Call::Judge, input, |subject, lent| {
+        let (number, read) = self.pair.call(Call::Judge, input, |subject, lent| {
             subject.judge(&message, &mut lent.answer[..READ])
         })?;
         if session.honest && (number != 0 || read[3] != state.declared) {
@@ -173,23 +174,25 @@ impl Driver<'_> {
             .map_err(|refusal| wrong(&format!("a sound message is {refusal}")))?;
         let places = reading.frames.map(|(place, _)| place as usize);
         let opening = parts(bytes, &places, reading.fields, reading.frames[7].1);
-        self.lend(random, 0, bytes.len());
-        let (_, mut answer) = self.call(Call::Open, input, |subject, lent| {
+        self.pair.lend(random, 0, bytes.len());
+        let (_, mut answer) = self.pair.call(Call::Open, input, |subject, lent| {
             subject.open(&opening, &mut lent.out, &mut lent.answer)
         })?;
         for entry in table.chunks_exact(peer::PER_FIELD).take(reading.fields as usize) {
             let field = &bytes[entry[1] as usize..(entry[2] + entry[3]) as usize];
             let state = state_of(&answer);
             answer = self
+                .pair
                 .call(Call::Add, input, |subject, lent| {
                     subject.add(state, field, &mut lent.out, &mut lent.answer)
                 })?
                 .1;
         }
         let state = state_of(&answer);
-        let (returned, answer) =
-            self.call(Call::Close, input, |subject, lent| subject.close(state, &mut lent.answer))?;
-        if returned != 0 || &self.lent_one.out[..answer[2] as usize] != bytes {
+        let (returned, answer) = self
+            .pair
+            .call(Call::Close, input, |subject, lent| subject.close(state, &mut lent.answer))?;
+        if returned != 0 || &self.pair.lent_one.out[..answer[2] as usize] != bytes {
             return Err(wrong("a rewritten message is not the same"));
         }
         Ok(())

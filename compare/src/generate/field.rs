@@ -185,10 +185,8 @@ fn beyond(random: &mut Random, kind: u8) -> u64 {
 /// Gives a scalar a mark, sound or with one item wrong.
 fn mark_of(random: &mut Random, value: &mut Value) {
     let unit = unit_type(random);
+    sound_mark_of(random, unit, value);
     let last = last_of(unit);
-    value.unit = unit;
-    value.currency = if unit >= 100 { random.pick(&CURRENCIES) } else { 0 };
-    value.display = random.between(0, last.into()) as u8;
     if random.chance(25) {
         match random.index(5) {
             0 => value.unit = unknown_unit(random),
@@ -198,6 +196,13 @@ fn mark_of(random: &mut Random, value: &mut Value) {
             _ => value.currency = random.between(0, 1001) as u16,
         }
     }
+}
+
+/// Gives a scalar a sound mark of this unit type.
+pub(super) fn sound_mark_of(random: &mut Random, unit: u8, value: &mut Value) {
+    value.unit = unit;
+    value.currency = if unit >= 100 { random.pick(&CURRENCIES) } else { 0 };
+    value.display = random.between(0, last_of(unit).into()) as u8;
 }
 
 /// A count of a small field, now and then a longer one.
@@ -263,7 +268,7 @@ fn sound_mark(random: &mut Random, out: &mut Vec<u8>) {
 }
 
 /// Appends a sound mark of this unit type.
-fn mark(random: &mut Random, unit: u8, out: &mut Vec<u8>) {
+pub(super) fn mark(random: &mut Random, unit: u8, out: &mut Vec<u8>) {
     out.push(unit);
     if unit >= 100 {
         let limits = [8, 1000, 191, 784, 978];
@@ -304,7 +309,7 @@ fn wrong_mark(random: &mut Random, fault: FieldFault, out: &mut Vec<u8>) {
 }
 
 /// A unit type that is known.
-fn unit_type(random: &mut Random) -> u8 {
+pub(super) fn unit_type(random: &mut Random) -> u8 {
     match random.share(&[65, 10, 25]) {
         0 => random.index(29) as u8,
         1 => 100,
@@ -337,7 +342,7 @@ fn wrong_currency(random: &mut Random) -> u16 {
 }
 
 /// The last display code of a unit type; 0 for one that has none.
-fn last_of(unit: u8) -> u8 {
+pub(super) fn last_of(unit: u8) -> u8 {
     match unit {
         0..=28 => LAST[usize::from(unit)],
         101..=106 => LAST[[5, 11, 16, 19, 25, 28][usize::from(unit - 101)]],
@@ -379,7 +384,7 @@ fn float_bits(random: &mut Random) -> u64 {
 }
 
 /// The bits of a double, often a special one.
-fn double_bits(random: &mut Random) -> u64 {
+pub(super) fn double_bits(random: &mut Random) -> u64 {
     const SPECIAL: [u64; 14] = [
         0,
         1 << 63,

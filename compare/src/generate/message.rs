@@ -263,7 +263,7 @@ fn id(random: &mut Random, out: &mut Vec<u8>) {
 }
 
 /// Damages bytes in one or more places.
-fn damage(random: &mut Random, bytes: &mut Vec<u8>) {
+pub(super) fn damage(random: &mut Random, bytes: &mut Vec<u8>) {
     for _ in 0..random.pick(&[1, 1, 1, 2, 5]) {
         match random.share(&[30, 15, 25, 15, 15]) {
             0 if !bytes.is_empty() => {
