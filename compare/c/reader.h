@@ -10,7 +10,10 @@
 #include <stddef.h>
 #include <stdint.h>
 
-/* Reads a message: number, place, length, fields, steps, and place and type of the eight frames; six numbers a field. */
+/*
+ * Reads a message: number, place, length, fields, steps, then place and type of the eight frames. The table gets six
+ * numbers for each field.
+ */
 uint32_t reader_read(const uint8_t *message, size_t message_len, uint32_t *table, size_t table_len, uint64_t *answer,
                      size_t answer_len);
 
@@ -27,7 +30,10 @@ uint32_t reader_view(const uint8_t *message, size_t message_len, uint64_t k, uin
 uint32_t reader_blank(const uint8_t *message, size_t message_len, uint8_t *out, size_t out_len, uint64_t *answer,
                       size_t answer_len);
 
-/* Opens a message; as every call of the writer: number, place, length, and the state: written, declared, added, closed. */
+/*
+ * Opens a message. It answers, as every call of the writer: number, place, length, and the state: written, declared,
+ * added, closed.
+ */
 uint32_t reader_open(const uint8_t *ids, size_t ids_len, int64_t number, uint8_t status, uint64_t fields,
                      uint8_t stated, uint8_t kind, uint8_t *out, size_t out_len, uint64_t *answer, size_t answer_len);
 
