@@ -19,8 +19,8 @@ typedef struct {
     uint32_t first, end;
 } Span;
 
-/* Judges frame 0 byte by byte, and answers the place after it. */
-static Verdict exact_magic(const uint8_t *bytes, size_t length) {
+/* The refusal of a frame 0 that is not as it should be, found byte by byte. */
+static Verdict refuse_magic(const uint8_t *bytes, size_t length) {
     for (size_t at = 0; at < 10; at++) {
         if (at >= length) {
             return verdict(1, length);
@@ -29,7 +29,7 @@ static Verdict exact_magic(const uint8_t *bytes, size_t length) {
             return verdict(2, at);
         }
     }
-    return memcmp(bytes, MAGIC, 10) == 0 ? verdict(0, 10) : verdict(3, 8);
+    return verdict(3, 8);
 }
 
 /* Notes place and type of a frame, where frames are asked for. */
@@ -83,7 +83,7 @@ static INLINED Verdict judge_header(const uint8_t *bytes, size_t length, size_t 
         return verdict(8, 0);
     }
     if (UNLIKELY(length < 10 || memcmp(bytes, MAGIC, 10) != 0)) {
-        return exact_magic(bytes, length);
+        return refuse_magic(bytes, length);
     }
     size_t at = 10;
     note(frames, 0, 0, 9);
