@@ -1,5 +1,6 @@
 /*
- * Sim0MQ typed messages (big-endian, manual version 1.5): reading, asking, blanking and writing.
+ * Sim0MQ typed messages (big-endian, manual version 1.5): reading, asking, blanking and writing them, and what is done
+ * with them.
  *
  * Every call is proved to end, to be safe, and to answer exactly as stated here, whatever bytes and numbers it is
  * handed. None has a precondition but C's own: a pointer is aligned as its type asks, stands with the number of
@@ -25,7 +26,8 @@
  *     5    a count is negative                                         its first byte
  *     6    status not 1 to 3                                           that byte; 0 in the writer
  *     7    more than 256 fields, or more than the count's type holds   first byte of the count; 0 in the writer
- *     8    more than 65,536 bytes in the message                       0
+ *     8    more than 65,536 bytes in the message; in a recording of    0; in a recording the
+ *          edition 1, more than 32,768                                 message's start
  *     9    field code above 32                                         that byte
  *     10   Boolean byte above 1                                        that byte
  *     11   unit type unknown                                           that byte
@@ -69,6 +71,9 @@ extern "C" {
 #define SIM0MQ_VIEW_NUMBERS 4
 #define SIM0MQ_BLANK_NUMBERS 3
 #define SIM0MQ_WRITER_NUMBERS 7
+#define SIM0MQ_RECORDING_NUMBERS 3
+#define SIM0MQ_RECORDING_ASK_NUMBERS 4
+#define SIM0MQ_SALVAGE_NUMBERS 8
 
 /* The most bytes of a message, the most fields, and the table's numbers for each field. */
 #define SIM0MQ_MOST_BYTES 65536
@@ -193,6 +198,62 @@ uint32_t sim0mq_add_scalar(uint64_t written, uint64_t declared, uint64_t added, 
  */
 uint32_t sim0mq_close(uint64_t written, uint64_t declared, uint64_t added, uint8_t closed, uint64_t *answer,
                       size_t answer_len);
+
+/* The most messages of a recording, and the numbers for each in the table of sim0mq_recording_open_into. */
+#define SIM0MQ_MOST_MESSAGES 4096
+#define SIM0MQ_PLACE_NUMBERS 2
+
+/* Why salvage kept no more messages. */
+#define SIM0MQ_STOPPED_AT_END 0
+#define SIM0MQ_STOPPED_AT_MOST 1
+#define SIM0MQ_STOPPED_AT_FAULT 2
+
+/*
+ * Opens a recording, messages end to end with an index after them, and judges each message of it.
+ *
+ *     answer[2]    its number of messages
+ *
+ * Refusals: 18; then that of the first message which is not accepted, its place counted from the recording's first
+ * byte.
+ */
+uint32_t sim0mq_recording_open(const uint8_t *recording, size_t recording_len, uint64_t *answer, size_t answer_len);
+
+/*
+ * Opens a recording as sim0mq_recording_open does. The table gets two numbers for each message, the place of its first
+ * byte and its length; its later numbers stay.
+ * Refusals: 18; 14 where the table has fewer than two numbers for each message of the index; then the messages'.
+ * Refused, the table is as it was. A table of SIM0MQ_MOST_MESSAGES * SIM0MQ_PLACE_NUMBERS numbers is enough for every
+ * recording.
+ */
+uint32_t sim0mq_recording_open_into(const uint8_t *recording, size_t recording_len, uint32_t *table, size_t table_len,
+                                    uint64_t *answer, size_t answer_len);
+
+/*
+ * Where message k, counted from 0, stands in a recording. Of the messages it judges that one only.
+ *
+ *     answer[2]    the place of its first byte
+ *     answer[3]    its length
+ *
+ * Refusals: 18; 16; then the message's own, its place counted from the recording's first byte.
+ */
+uint32_t sim0mq_recording_ask(const uint8_t *recording, size_t recording_len, uint64_t k, uint64_t *answer,
+                              size_t answer_len);
+
+/*
+ * Brings back a recording that was cut: keeps the longest run of accepted messages from the front of the file, up to
+ * SIM0MQ_MOST_MESSAGES, and writes them to the front of `out` with a new index. `out` past the recording stays.
+ *
+ *     answer[2]    the new recording's length
+ *     answer[3]    the number of messages kept
+ *     answer[4]    the number of bytes of the file that were dropped
+ *     answer[5]    why no more were kept: SIM0MQ_STOPPED_AT_END, _AT_MOST, with bytes left, or _AT_FAULT
+ *     answer[6]    at a fault, the refusal of what follows the messages kept; else 0
+ *     answer[7]    at a fault, its place in the file; else 0
+ *
+ * Refusals: 14 where `out` is shorter than the new recording, and no other. Refused, `out` is as it was.
+ */
+uint32_t sim0mq_salvage(const uint8_t *file, size_t file_len, uint8_t *out, size_t out_len, uint64_t *answer,
+                        size_t answer_len);
 
 #ifdef __cplusplus
 }

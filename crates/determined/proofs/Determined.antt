@@ -170,6 +170,10 @@ use Rattle.writer_exports.proofs.sim0mq_open.Reads as c-open
 use Rattle.writer_exports.proofs.sim0mq_add.Reads as c-add
 use Rattle.writer_exports.proofs.sim0mq_add_scalar.Reads as c-add-scalar
 use Rattle.writer_exports.proofs.sim0mq_close.Reads as c-close
+use Rattle.boundary_recordings.proofs.sim0mq_recording_open.Reads as c-recording-open
+use Rattle.boundary_recordings.proofs.sim0mq_recording_open_into.Reads as c-recording-open-into
+use Rattle.boundary_recordings.proofs.sim0mq_recording_ask.Reads as c-recording-ask
+use Rattle.boundary_recordings.proofs.sim0mq_salvage.Reads as c-salvage
 use Rattle.pieces.proofs.put.Reads as put
 use Rattle.pieces.proofs.number.Reads as decimal
 use Rattle.listing.proofs.listing.Reads as listing
@@ -822,6 +826,37 @@ c-close-result = equated _ (λ κs a z e p. p .0)
 
 pub c-close-answer : Determines c-close.Post (λ κs z e. now (e .1 .1 .1 .1 .0))
 c-close-answer = equated _ (λ κs a z e p. p .1)
+
+-- The calls of crate boundary_recordings.
+pub c-recording-open-result : Determines c-recording-open.Post (λ κs z e. z)
+c-recording-open-result = equated c-recording-open.Post (λ κs z e. z) _ (λ κs a z e p. p .0)
+
+pub c-recording-open-answer : Determines c-recording-open.Post (λ κs z e. now (e .1 .0))
+c-recording-open-answer = equated c-recording-open.Post (λ κs z e. now (e .1 .0)) _ (λ κs a z e p. p .1)
+
+pub c-recording-open-into-result : Determines c-recording-open-into.Post (λ κs z e. z)
+c-recording-open-into-result = equated c-recording-open-into.Post (λ κs z e. z) _ (λ κs a z e p. p .0)
+
+pub c-recording-open-into-table : Determines c-recording-open-into.Post (λ κs z e. now (e .1 .0))
+c-recording-open-into-table = equated c-recording-open-into.Post (λ κs z e. now (e .1 .0)) _ (λ κs a z e p. p .1 .0)
+
+pub c-recording-open-into-answer : Determines c-recording-open-into.Post (λ κs z e. now (e .1 .1 .0))
+c-recording-open-into-answer = equated c-recording-open-into.Post (λ κs z e. now (e .1 .1 .0)) _ (λ κs a z e p. p .1 .1)
+
+pub c-recording-ask-result : Determines c-recording-ask.Post (λ κs z e. z)
+c-recording-ask-result = equated c-recording-ask.Post (λ κs z e. z) _ (λ κs a z e p. p .0)
+
+pub c-recording-ask-answer : Determines c-recording-ask.Post (λ κs z e. now (e .1 .1 .0))
+c-recording-ask-answer = equated c-recording-ask.Post (λ κs z e. now (e .1 .1 .0)) _ (λ κs a z e p. p .1)
+
+pub c-salvage-result : Determines c-salvage.Post (λ κs z e. z)
+c-salvage-result = equated c-salvage.Post (λ κs z e. z) _ (λ κs a z e p. p .0)
+
+pub c-salvage-out : Determines c-salvage.Post (λ κs z e. now (e .1 .0))
+c-salvage-out = equated c-salvage.Post (λ κs z e. now (e .1 .0)) _ (λ κs a z e p. p .1 .0)
+
+pub c-salvage-answer : Determines c-salvage.Post (λ κs z e. now (e .1 .1 .0))
+c-salvage-answer = equated c-salvage.Post (λ κs z e. now (e .1 .1 .0)) _ (λ κs a z e p. p .1 .1)
 
 -- The calls of crate pieces.
 pub put-result : Determines put.Post (λ κs z e. z)
