@@ -74,6 +74,7 @@ extern "C" {
 #define SIM0MQ_RECORDING_NUMBERS 3
 #define SIM0MQ_RECORDING_ASK_NUMBERS 4
 #define SIM0MQ_SALVAGE_NUMBERS 8
+#define SIM0MQ_COMMAND_NUMBERS 3
 
 /* The most bytes of a message, the most fields, and the table's numbers for each field. */
 #define SIM0MQ_MOST_BYTES 65536
@@ -254,6 +255,36 @@ uint32_t sim0mq_recording_ask(const uint8_t *recording, size_t recording_len, ui
  */
 uint32_t sim0mq_salvage(const uint8_t *file, size_t file_len, uint8_t *out, size_t out_len, uint64_t *answer,
                         size_t answer_len);
+
+/* The commands of the manual's chapter 4, by their type ids, in its order. */
+#define SIM0MQ_FM_1 0
+#define SIM0MQ_FS_1 1
+#define SIM0MQ_MC_1 2
+#define SIM0MQ_FS_2 3
+#define SIM0MQ_FM_2 4
+#define SIM0MQ_MC_2 5
+#define SIM0MQ_FM_3 6
+#define SIM0MQ_FM_4 7
+#define SIM0MQ_FM_5 8
+#define SIM0MQ_FM_6 9
+#define SIM0MQ_MC_3 10
+#define SIM0MQ_MC_4 11
+#define SIM0MQ_FM_7 12
+#define SIM0MQ_FM_8 13
+#define SIM0MQ_FM_9 14
+#define SIM0MQ_FS_3 15
+#define SIM0MQ_FS_4 16
+#define SIM0MQ_FS_5 17
+
+/*
+ * Which command of the manual's chapter 4 a message is: type id, status, number of fields, their codes and their words
+ * are judged.
+ *
+ *     answer[2]    the command, SIM0MQ_FM_1 to SIM0MQ_FS_5
+ *
+ * Refusals: 1 to 13 and 19, as in judging; then 20; 21; 22; 23.
+ */
+uint32_t sim0mq_command(const uint8_t *message, size_t message_len, uint64_t *answer, size_t answer_len);
 
 #ifdef __cplusplus
 }

@@ -174,6 +174,7 @@ use Rattle.boundary_recordings.proofs.sim0mq_recording_open.Reads as c-recordin
 use Rattle.boundary_recordings.proofs.sim0mq_recording_open_into.Reads as c-recording-open-into
 use Rattle.boundary_recordings.proofs.sim0mq_recording_ask.Reads as c-recording-ask
 use Rattle.boundary_recordings.proofs.sim0mq_salvage.Reads as c-salvage
+use Rattle.boundary_commands.proofs.sim0mq_command.Reads as c-command
 use Rattle.pieces.proofs.put.Reads as put
 use Rattle.pieces.proofs.number.Reads as decimal
 use Rattle.listing.proofs.listing.Reads as listing
@@ -857,6 +858,13 @@ c-salvage-out = equated c-salvage.Post (λ κs z e. now (e .1 .0)) _ (λ κs a z
 
 pub c-salvage-answer : Determines c-salvage.Post (λ κs z e. now (e .1 .1 .0))
 c-salvage-answer = equated c-salvage.Post (λ κs z e. now (e .1 .1 .0)) _ (λ κs a z e p. p .1 .1)
+
+-- The calls of crate boundary_commands.
+pub c-command-result : Determines c-command.Post (λ κs z e. z)
+c-command-result = equated c-command.Post (λ κs z e. z) _ (λ κs a z e p. p .0)
+
+pub c-command-answer : Determines c-command.Post (λ κs z e. now (e .1 .0))
+c-command-answer = equated c-command.Post (λ κs z e. now (e .1 .0)) _ (λ κs a z e p. p .1)
 
 -- The calls of crate pieces.
 pub put-result : Determines put.Post (λ κs z e. z)
