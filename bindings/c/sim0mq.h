@@ -15,8 +15,8 @@
  *     255        `answer` is too short for the call's numbers (SIM0MQ_..._NUMBERS); nothing at all is written
  *
  * answer[0] is the returned number, and answer[1] the place of the fault, 0 where the call is granted. On a refusal the
- * call's other numbers are 0 (but the writer's state, see there), and every other buffer is as it was. Numbers of
- * `answer` past the call's own stay as they were.
+ * call's other numbers are 0 (but the state of the writer and of the recorder, see there), and every other buffer is as
+ * it was. Numbers of `answer` past the call's own stay as they were.
  *
  *     No.  When                                                        Place
  *     1    the bytes end before the item being read                    their length
@@ -34,7 +34,7 @@
  *     12   display code outside its range                              that byte
  *     13   bytes after the last item                                   the first of them
  *     14   lent output too short                                       0
- *     15   writer call that does not fit its state                     0
+ *     15   call that does not fit the writer's or recorder's state     0
  *     16   no field k; in a recording, no message k                    0
  *     17   value not of the kind asked or allowed                      0
  *     18   recording: trailer or index wrong, or over 4,096 entries    0
@@ -75,6 +75,7 @@ extern "C" {
 #define SIM0MQ_RECORDING_ASK_NUMBERS 4
 #define SIM0MQ_SALVAGE_NUMBERS 8
 #define SIM0MQ_COMMAND_NUMBERS 3
+#define SIM0MQ_RECORDER_NUMBERS 6
 
 /* The most bytes of a message, the most fields, and the table's numbers for each field. */
 #define SIM0MQ_MOST_BYTES 65536
@@ -285,6 +286,34 @@ uint32_t sim0mq_salvage(const uint8_t *file, size_t file_len, uint8_t *out, size
  * Refusals: 1 to 13 and 19, as in judging; then 20; 21; 22; 23.
  */
 uint32_t sim0mq_command(const uint8_t *message, size_t message_len, uint64_t *answer, size_t answer_len);
+
+/*
+ * The recorder writes a recording, message by message, into one buffer. Its state is three numbers, which each call
+ * takes and hands back; a new one has 0 in each:
+ *
+ *     answer[2]    the number of bytes written so far; after closing, the length of the recording; 0 on a refusal
+ *     answer[3]    the state: written
+ *     answer[4]               messages
+ *     answer[5]               closed, 0 or 1
+ *
+ * A refused call hands back the state that it took, in which `closed` is then 0 or 1; `out` is as it was. The finished
+ * recording is the first answer[2] bytes of `out`, where each call takes the state last handed back and one same buffer
+ * that nothing else writes. `out` past it stays. In `closed` 0 is open and any other number closed.
+ *
+ * Adds a message after those before it.
+ * Refusals: 15 where the state is closed, its written length is above out_len, or it has SIM0MQ_MOST_MESSAGES messages
+ * or more; the message's own (places within it); 14.
+ */
+uint32_t sim0mq_recording_add(uint64_t written, uint64_t messages, uint8_t closed, const uint8_t *message,
+                              size_t message_len, uint8_t *out, size_t out_len, uint64_t *answer, size_t answer_len);
+
+/*
+ * Closes the recording: finds the messages again in what was written, and puts their index after them.
+ * Refusals: 15 where the state is closed, its written length is above out_len, or the bytes written are not so many
+ * messages end to end; 14.
+ */
+uint32_t sim0mq_recording_close(uint64_t written, uint64_t messages, uint8_t closed, uint8_t *out, size_t out_len,
+                                uint64_t *answer, size_t answer_len);
 
 #ifdef __cplusplus
 }

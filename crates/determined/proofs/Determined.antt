@@ -175,6 +175,8 @@ use Rattle.boundary_recordings.proofs.sim0mq_recording_open_into.Reads as c-rec
 use Rattle.boundary_recordings.proofs.sim0mq_recording_ask.Reads as c-recording-ask
 use Rattle.boundary_recordings.proofs.sim0mq_salvage.Reads as c-salvage
 use Rattle.boundary_commands.proofs.sim0mq_command.Reads as c-command
+use Rattle.boundary_recorder.proofs.sim0mq_recording_add.Reads as c-recording-add
+use Rattle.boundary_recorder.proofs.sim0mq_recording_close.Reads as c-recording-close
 use Rattle.pieces.proofs.put.Reads as put
 use Rattle.pieces.proofs.number.Reads as decimal
 use Rattle.listing.proofs.listing.Reads as listing
@@ -865,6 +867,25 @@ c-command-result = equated c-command.Post (λ κs z e. z) _ (λ κs a z e p. p .
 
 pub c-command-answer : Determines c-command.Post (λ κs z e. now (e .1 .0))
 c-command-answer = equated c-command.Post (λ κs z e. now (e .1 .0)) _ (λ κs a z e p. p .1)
+
+-- The calls of crate boundary_recorder.
+pub c-recording-add-result : Determines c-recording-add.Post (λ κs z e. z)
+c-recording-add-result = equated c-recording-add.Post (λ κs z e. z) _ (λ κs a z e p. p .0)
+
+pub c-recording-add-out : Determines c-recording-add.Post (λ κs z e. now (e .1 .1 .1 .1 .0))
+c-recording-add-out = equated c-recording-add.Post (λ κs z e. now (e .1 .1 .1 .1 .0)) _ (λ κs a z e p. p .1 .0)
+
+pub c-recording-add-answer : Determines c-recording-add.Post (λ κs z e. now (e .1 .1 .1 .1 .1 .0))
+c-recording-add-answer = equated c-recording-add.Post (λ κs z e. now (e .1 .1 .1 .1 .1 .0)) _ (λ κs a z e p. p .1 .1)
+
+pub c-recording-close-result : Determines c-recording-close.Post (λ κs z e. z)
+c-recording-close-result = equated c-recording-close.Post (λ κs z e. z) _ (λ κs a z e p. p .0)
+
+pub c-recording-close-out : Determines c-recording-close.Post (λ κs z e. now (e .1 .1 .1 .0))
+c-recording-close-out = equated c-recording-close.Post (λ κs z e. now (e .1 .1 .1 .0)) _ (λ κs a z e p. p .1 .0)
+
+pub c-recording-close-answer : Determines c-recording-close.Post (λ κs z e. now (e .1 .1 .1 .1 .0))
+c-recording-close-answer = equated c-recording-close.Post (λ κs z e. now (e .1 .1 .1 .1 .0)) _ (λ κs a z e p. p .1 .1)
 
 -- The calls of crate pieces.
 pub put-result : Determines put.Post (λ κs z e. z)
