@@ -315,6 +315,26 @@ uint32_t sim0mq_recording_add(uint64_t written, uint64_t messages, uint8_t close
 uint32_t sim0mq_recording_close(uint64_t written, uint64_t messages, uint8_t closed, uint8_t *out, size_t out_len,
                                 uint64_t *answer, size_t answer_len);
 
+/*
+ * The sum of two scalars, each handed over by kind, bits and mark as sim0mq_value answers them, and answered in the
+ * same SIM0MQ_VALUE_NUMBERS numbers. Only doubles with a unit (SIM0MQ_DOUBLE_UNIT) have one, of the pairs Length and
+ * Position, Duration and Time, Angle and Direction, Temperature and AbsoluteTemperature: two relatives, or an absolute
+ * and a relative in either order; two absolutes are never added. The manual says which unit type and display code the
+ * sum has.
+ * Refusals: 17 where one of the two is no double with a mark that reading gives; 24; 25.
+ */
+uint32_t sim0mq_sum(uint8_t kind, uint64_t bits, uint8_t unit, uint16_t currency, uint8_t display, uint8_t kind2,
+                    uint64_t bits2, uint8_t unit2, uint16_t currency2, uint8_t display2, uint64_t *answer,
+                    size_t answer_len);
+
+/*
+ * The difference of two scalars, the second taken from the first, in the same way: of two relatives, two absolutes of
+ * one pair, or a relative taken from an absolute.
+ */
+uint32_t sim0mq_difference(uint8_t kind, uint64_t bits, uint8_t unit, uint16_t currency, uint8_t display, uint8_t kind2,
+                           uint64_t bits2, uint8_t unit2, uint16_t currency2, uint8_t display2, uint64_t *answer,
+                           size_t answer_len);
+
 #ifdef __cplusplus
 }
 #endif

@@ -1,5 +1,5 @@
--- What a call of the recorder answers, in numbers: each case of the answer, before the numbers of the state; and a call is
--- the same on equal states, so the state may be told by its numbers.
+-- What a call of the recorder answers, in numbers: each case of the answer, before the numbers of the state; and a call
+-- is the same on equal states, so the state may be told by its numbers.
 use Prim.Native.Nat.{ℕ}
 use mathlib.Core.Path.{_≡_, sym, ap, _∙_}
 use mathlib.Core.List.{List, [], _∷_, _++_}

@@ -1,5 +1,5 @@
--- The numbers in which the answers of recordings cross to C and Rust. The first is 0 where the call is granted, else the
--- refusal's number; the second is the refusal's place, 0 where it is granted.
+-- The numbers in which the answers of recordings cross to C and Rust. The first is 0 where the call is granted, else
+-- the refusal's number; the second is the refusal's place, 0 where it is granted.
 use Prim.Native.Nat.{ℕ}
 use mathlib.Core.List.{List, [], _∷_}
 use lib.ListN.{replicate}

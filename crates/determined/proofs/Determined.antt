@@ -177,6 +177,8 @@ use Rattle.boundary_recordings.proofs.sim0mq_salvage.Reads as c-salvage
 use Rattle.boundary_commands.proofs.sim0mq_command.Reads as c-command
 use Rattle.boundary_recorder.proofs.sim0mq_recording_add.Reads as c-recording-add
 use Rattle.boundary_recorder.proofs.sim0mq_recording_close.Reads as c-recording-close
+use Rattle.boundary_sums.proofs.sim0mq_sum.Reads as c-sum
+use Rattle.boundary_sums.proofs.sim0mq_difference.Reads as c-difference
 use Rattle.pieces.proofs.put.Reads as put
 use Rattle.pieces.proofs.number.Reads as decimal
 use Rattle.listing.proofs.listing.Reads as listing
@@ -886,6 +888,19 @@ c-recording-close-out = equated c-recording-close.Post (λ κs z e. now (e .1 .1
 
 pub c-recording-close-answer : Determines c-recording-close.Post (λ κs z e. now (e .1 .1 .1 .1 .0))
 c-recording-close-answer = equated c-recording-close.Post (λ κs z e. now (e .1 .1 .1 .1 .0)) _ (λ κs a z e p. p .1 .1)
+
+-- The calls of crate boundary_sums.
+pub c-sum-result : Determines c-sum.Post (λ κs z e. z)
+c-sum-result = equated c-sum.Post (λ κs z e. z) _ (λ κs a z e p. p .0)
+
+pub c-sum-answer : Determines c-sum.Post (λ κs z e. now (e .1 .1 .1 .1 .1 .1 .1 .1 .1 .1 .0))
+c-sum-answer = equated c-sum.Post (λ κs z e. now (e .1 .1 .1 .1 .1 .1 .1 .1 .1 .1 .0)) _ (λ κs a z e p. p .1)
+
+pub c-difference-result : Determines c-difference.Post (λ κs z e. z)
+c-difference-result = equated c-difference.Post (λ κs z e. z) _ (λ κs a z e p. p .0)
+
+pub c-difference-answer : Determines c-difference.Post (λ κs z e. now (e .1 .1 .1 .1 .1 .1 .1 .1 .1 .1 .0))
+c-difference-answer = equated c-difference.Post (λ κs z e. now (e .1 .1 .1 .1 .1 .1 .1 .1 .1 .1 .0)) _ (λ κs a z e p. p .1)
 
 -- The calls of crate pieces.
 pub put-result : Determines put.Post (λ κs z e. z)

@@ -1,5 +1,5 @@
--- Where there is room, the numbers are those of what `close` answers to the state that its numbers tell, and `out` is as
--- it leaves it.
+-- Where there is room, the numbers are those of what `close` answers to the state that its numbers tell, and `out` is
+-- as it leaves it.
 use borrow.Author.Needs.{needs}
 use mathlib.Core.Path.{_∙_}
 use Rattle.giving.proofs.GivenLaws.{given-short, given-room, returned-short, answered-short, both-told}
