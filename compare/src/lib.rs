@@ -2,7 +2,9 @@
 //!
 //! [`peer`] is an implementation written from the rules alone, [`c_peer`] another one, in C;
 //! [`generate`] makes the inputs and [`driver`] puts the same questions to two
-//! [`subject::Subject`]s and compares every answer and every lent buffer.
+//! [`subject::Subject`]s and compares every answer and every lent buffer; the same for two
+//! [`subject::Parts`], which are what is built on messages: recordings, commands, sums, senders
+//! and the deck ledger.
 
 #![deny(unsafe_code)]
 #![warn(missing_docs)]

@@ -105,7 +105,8 @@ fn time(random: &mut Random, unit: u8) -> Vec<u8> {
     field
 }
 
-/// A field that is right where a row has this letter.
+/// A field that is right where a row has this letter, or one that is nearly
+/// right: `0` is a byte, `c` a character, `w` a string of 16-bit characters.
 fn right(random: &mut Random, letter: char) -> Vec<u8> {
     let short = random.index(5);
     match letter {
@@ -118,6 +119,9 @@ fn right(random: &mut Random, letter: char) -> Vec<u8> {
         'i' => of_width(random, 2, 4),
         'l' => of_width(random, 3, 8),
         'd' => of_width(random, 5, 8),
+        '0' => of_width(random, 0, 1),
+        'c' => of_width(random, 7, 1),
+        'w' => [&[10, 0, 0, 0, short as u8], &[0; 10][..2 * short]].concat(),
         'D' => time(random, 25),
         'T' => time(random, 26),
         'n' => match random.index(4) {
@@ -166,7 +170,8 @@ fn wrong_field(random: &mut Random, fault: Fault, letters: &str, fields: &mut Ve
         }
         Fault::Code if !fields.is_empty() => {
             let place = random.index(fields.len());
-            let letter = random.pick(&['s', 'b', 'h', 'i', 'l', 'd', 'D', 'T', '*']);
+            let near = ['s', 'b', 'h', 'i', 'l', 'd', 'D', 'T', '0', 'c', 'w', 'w', '0', '*'];
+            let letter = random.pick(&near);
             fields[place] = right(random, letter);
         }
         Fault::Word => wrong_words(random, letters, fields),
@@ -184,7 +189,7 @@ fn wrong_field(random: &mut Random, fault: Fault, letters: &str, fields: &mut Ve
 /// Makes one or more strings empty, or words that are nearly right.
 fn wrong_words(random: &mut Random, letters: &str, fields: &mut [Vec<u8>]) {
     for (letter, field) in letters.chars().zip(fields) {
-        if !"SsmeSn".contains(letter) || !random.chance(40) {
+        if !"Ssmen".contains(letter) || !random.chance(40) {
             continue;
         }
         let near: [&[u8]; 8] =

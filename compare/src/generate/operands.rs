@@ -53,7 +53,7 @@ fn doubles(random: &mut Random) -> [u64; 2] {
         _ => double_bits(random),
     };
     let near = |random: &mut Random| one ^ (random.below(2) << 63);
-    let two = match random.share(&[22, 26, 12, 10, 10, 10, 10]) {
+    let two = match random.share(&[22, 26, 12, 10, 10, 8, 2, 10]) {
         0 => double_bits(random),
         // Half a unit of the last place, exactly, a little more, a little less.
         1 => beside(random, one, 53),
@@ -64,8 +64,9 @@ fn doubles(random: &mut Random) -> [u64; 2] {
         // The same size or one next to it, so that much cancels.
         3 => near(random),
         4 => near(random).wrapping_add(random.below(5)).wrapping_sub(2),
-        // Both near the greatest, or both near the least.
+        // Both near the greatest, both zero, or both near the least.
         5 => return [0; 2].map(|_| greatest(random)),
+        6 => return [0; 2].map(|_| random.below(2) << 63),
         _ => return [0; 2].map(|_| random.below(1 << 54) | (random.below(2) << 63)),
     };
     if random.chance(50) {

@@ -6,6 +6,10 @@ use super::run::{header, Run};
 use crate::peer::recordings::Recorder;
 use crate::random::Random;
 
+/// The least message: four ids of 16 bits and no field.
+const LEAST: &[u8; 35] = b"\x09\0\0\0\x05SIM01\x01\0\0\x01\0\0\x01\0\0\x01\0\0\
+    \x03\0\0\0\0\0\0\0\0\0\x01\0\0";
+
 /// A generated recording and what it was made with.
 #[derive(Clone, Debug, Default)]
 pub struct Recording {
@@ -36,7 +40,9 @@ pub fn recording(random: &mut Random, made: &mut Recording) {
     let end = made.bytes.len();
     made.messages = made.lengths.len() as u64;
     made.salvaged = end + 8 * made.lengths.len() + 10;
-    let fault = random.share(&[45, 15, 15, 15, 10]);
+    // A file of as many messages as there may be is cut more often, to see where salvage stops.
+    let cuts = if made.messages > 4_000 { 90 } else { 10 };
+    let fault = random.share(&[45, 15, 15, 15, cuts]);
     if fault == 3 && end > 0 {
         let place = random.index(end);
         let byte = random.byte();
@@ -112,31 +118,26 @@ fn messages(random: &mut Random, edition: u16, made: &mut Recording) {
     };
     let wrong = if random.chance(12) { random.below(count + 1) } else { count };
     for number in 0..count {
-        if count > 4000 {
-            made.push(
-                b"\x09\0\0\0\x05SIM01\x01\0\0\x01\0\0\x01\0\0\x01\0\0\
-                \x03\0\0\0\0\0\0\0\0\0\x01\0\0",
-            );
-            continue;
-        }
-        if number == wrong {
+        if count > 4_000 {
+            next.bytes.clear();
+            next.bytes.extend(LEAST);
+        } else if number == wrong {
             recorded_message(random, &mut run, &mut next);
         } else if random.chance(90) {
             run.muster(random, &mut next.bytes);
         } else {
             sound_message(random, &mut next);
         }
-        made.push(&next.bytes);
+        // A longer one has no entry in edition 1.
+        if edition == 2 || next.bytes.len() <= 65_535 {
+            made.push(&next.bytes);
+        }
     }
     if random.below(400) == 0 {
         let most = if edition == 1 { 32_768 } else { 65_536 };
-        let past = random.pick(&[0, 0, 5, 100]);
+        let past = random.pick(&[0, 0, 1, 1, 2, 5, 100]);
         long_message(random, most + past, &mut next.bytes);
         made.push(&next.bytes);
-    }
-    if edition == 1 && made.lengths.iter().any(|&length| length > 65_535) {
-        made.bytes.clear();
-        made.lengths.clear();
     }
 }
 
@@ -227,7 +228,9 @@ fn cut(random: &mut Random, made: &mut Recording) {
         1 => made.bytes.truncate(length - random.between(1, 10) as usize),
         2 => {
             // After a whole message, so that nothing is left of the next.
-            let whole = random.index(made.lengths.len() + 1);
+            let most = made.lengths.len();
+            let near = most - random.index(4).min(most);
+            let whole = if random.chance(60) { near } else { random.index(most + 1) };
             made.bytes.truncate(made.lengths[..whole].iter().sum::<u32>() as usize);
         }
         _ => {

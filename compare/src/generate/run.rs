@@ -45,7 +45,7 @@ impl Run {
         match random.share(&[86, 5, 4, 5]) {
             0 => {
                 let number = random.below(self.pool);
-                let (code, width) = random_code(number);
+                let (code, width) = code_of(number);
                 let mut id = vec![0; width];
                 id[width - 1] = (number / 4) as u8;
                 (code, id)
@@ -123,7 +123,7 @@ impl Run {
 }
 
 /// The code and the number of value bytes of a sender of the pool.
-fn random_code(number: u64) -> (u8, usize) {
+fn code_of(number: u64) -> (u8, usize) {
     [(1, 2), (2, 4), (9, 2), (10, 2)][(number % 4) as usize]
 }
 

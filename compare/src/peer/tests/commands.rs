@@ -55,6 +55,27 @@ fn each_command() {
     }
 }
 
+/// An encoded double.
+fn double(value: f64) -> Vec<u8> {
+    [&[5], &value.to_be_bytes()[..]].concat()
+}
+
+#[test]
+fn the_manuals_model() {
+    let words = [&b"MM1.1"[..], b"java", b"-jar", b"mm1.jar", b"MM1.1 5556", b"/tmp", b""];
+    let mut fields: Vec<Vec<u8>> = words.into_iter().map(text).collect();
+    fields.extend([text(b"out.txt"), text(b"err.txt")]);
+    let mut fields: Vec<&[u8]> = fields.iter().map(|field| &field[..]).collect();
+    fields.extend([YES; 3]);
+    is(1, b"FM.1", &fields);
+    let (zero, one) = (double(0.0), &[2, 0, 0, 0, 1][..]);
+    let (time, speed) = (double(100.0), double(f64::INFINITY));
+    is(2, b"FM.2", &[&time, &zero, &zero, &speed, one, one, &text(b"default"), LONG]);
+    is(3, b"FM.3", &[&text(b"iat"), &double(1.0)]);
+    is(6, b"FM.6", &[&text(b"dN.average")]);
+    is(8, b"FM.8", &[&text(b"IDVV.14")]);
+}
+
 #[test]
 fn types_and_numbers_of_fields() {
     assert_eq!(command(&S), Err(Refusal::new(20, 43)));

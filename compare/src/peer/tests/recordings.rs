@@ -2,7 +2,7 @@ use super::super::recordings::{
     add, ask, close, open, open_into, salvage, Recorder, Salvaged, Stop, MOST_MESSAGES,
 };
 use super::super::Refusal;
-use super::{changed, S};
+use super::{changed, with_payload, S};
 
 /// The least message: four ids of 16 bits and no field.
 const LEAST: [u8; 35] = *b"\x09\0\0\0\x05SIM01\x01\0\0\x01\0\0\x01\0\0\x01\0\0\
@@ -35,9 +35,9 @@ fn sized(bytes: usize) -> Vec<u8> {
 fn refused(recording: &[u8], number: u32, place: u64) {
     let refusal = Err(Refusal { number, place });
     assert_eq!(open(recording), refusal);
-    let mut table = [9; 20];
+    let mut table = [9; 100];
     assert_eq!(open_into(recording, &mut table), refusal);
-    assert_eq!(table, [9; 20]);
+    assert_eq!(table, [9; 100]);
 }
 
 /// A recording with the byte at this place, counted from its end, changed.
@@ -120,6 +120,31 @@ fn a_messages_own() {
     assert_eq!(open_into(&bytes, &mut [0; 5]), Err(Refusal::new(14, 0)));
     let longer = [&S[..], &[0]].concat();
     refused(&recording(&[&LEAST, &longer], 1), 13, 35 + 77);
+}
+
+#[test]
+fn message_40_without_the_first_39() {
+    let mut messages = vec![changed(0, 8); 40];
+    messages.extend([S.to_vec(), changed(0, 8)]);
+    let messages: Vec<&[u8]> = messages.iter().map(|message| &message[..]).collect();
+    for edition in [1, 2] {
+        let bytes = recording(&messages, edition);
+        assert_eq!(ask(&bytes, 40), Ok((40 * 77, 77)));
+        assert_eq!(ask(&bytes, 39), Err(Refusal::new(2, 39 * 77)));
+        refused(&bytes, 2, 0);
+    }
+}
+
+#[test]
+fn old_recordings_with_other_currencies() {
+    let fuel = |currency: u16| {
+        let [high, low] = currency.to_be_bytes();
+        with_payload(&[26, 100, high, low, 0, 0, 0, 0, 0, 0, 0, 0])
+    };
+    for edition in [1, 2] {
+        assert_eq!(open(&recording(&[&S, &fuel(1000)], edition)), Ok(2));
+        refused(&recording(&[&S, &fuel(3)], edition), 19, 77 + 70);
+    }
 }
 
 #[test]

@@ -30,6 +30,15 @@ fn relative_and_absolute() {
 }
 
 #[test]
+fn the_manuals_hours() {
+    let hours = |unit, display, hours: f64| of(unit, display, hours * 3600.0);
+    assert_eq!(sum(hours(26, 8, 5.0), hours(26, 8, 3.0)), REFUSED_24);
+    assert_eq!(difference(hours(26, 8, 5.0), hours(26, 8, 3.0)), Ok(hours(25, 0, 2.0)));
+    assert_eq!(sum(hours(26, 8, 17.0), hours(25, 7, 2.0)), Ok(hours(26, 8, 19.0)));
+    assert_eq!(sum(hours(25, 7, 2.0), hours(25, 6, 0.5)), Ok(hours(25, 7, 2.5)));
+}
+
+#[test]
 fn no_other_pair() {
     for one in (0..29).chain(100..107) {
         for two in (0..29).chain(100..107) {
