@@ -104,6 +104,7 @@ use Rattle.recordings_writing.proofs.Recorder.new.Reads as recorder-new
 use Rattle.recordings_writing.proofs.Recorder.add.Reads as recorder-add
 use Rattle.recordings_writing.proofs.Recorder.close.Reads as recorder-close
 use Rattle.recordings_salvaging.proofs.salvage.Reads as salvage
+use Rattle.recordings_blanking.proofs.blank_recording.Reads as blank-recording
 use Rattle.commands.proofs.command.Reads as command
 use Rattle.senders_lookup.proofs.place_of.Reads as place-of
 use Rattle.senders_lookup.proofs.free_place.Reads as free-place
@@ -532,6 +533,13 @@ salvage-result = equated _ (λ κs a z e p. p .0)
 
 pub salvage-out : Determines salvage.Post (λ κs z e. now (e .1 .0))
 salvage-out = equated _ (λ κs a z e p. p .1)
+
+pub blank-recording-result : Determines blank-recording.Post (λ κs z e. z)
+blank-recording-result =
+    determined blank-recording.Post (λ κs z e. z) (λ κs. judged) (λ κs. judged-apart) _ (λ κs a z e p. p .0)
+
+pub blank-recording-out : Determines blank-recording.Post (λ κs z e. now (e .1 .0))
+blank-recording-out = equated blank-recording.Post (λ κs z e. now (e .1 .0)) _ (λ κs a z e p. p .1)
 
 -- The call of crate commands.
 pub command-result : Determines command.Post (λ κs z e. z)

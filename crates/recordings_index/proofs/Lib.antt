@@ -1,3 +1,4 @@
 pub mod TrailerCases
 pub mod TileCases
 pub mod IndexCases
+pub mod TailLaws

@@ -23,7 +23,7 @@ cut-inside p =
     let rest = flatMap fieldBytes (p .fields) in
     fields-inside (length front) (length (messageBytes p)) (p .fields) (omega (arith, length-append front rest))
 
-inside : (lent : Lent) (s : List ℕ) (m : Reading) → reading lent s ≡ fine m → Each (Inside (length s)) (m .fields)
+pub inside : (lent : Lent) (s : List ℕ) (m : Reading) → reading lent s ≡ fine m → Each (Inside (length s)) (m .fields)
 inside lent s m q =
     let f = found lent s m q in
     subst₂ (λ (t : List ℕ) (x : Reading). Each (Inside (length t)) (x .fields)) (f .whole) (sym (f .says)) (cut-inside (f .parts))

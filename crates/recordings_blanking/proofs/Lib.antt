@@ -1,0 +1,4 @@
+pub mod JoinLaws
+pub mod CopyLaws
+pub mod BlankCases
+pub mod Promises

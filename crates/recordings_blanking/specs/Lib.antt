@@ -1,0 +1,3 @@
+pub mod Blanking
+pub mod Copying
+pub mod Promises
