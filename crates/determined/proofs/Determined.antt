@@ -1,6 +1,7 @@
 -- The contract of a public call is an equation for its result and for each buffer that it may write, so any two
 -- outcomes that it allows are equal.
-use mathlib.Core.Path.{_≡_, refl, ap, sym, _∙_}
+use Prim.Native.Nat.{ℕ}
+use mathlib.Core.Path.{_≡_, refl, ap, sym, _∙_, subst}
 use mathlib.Core.Bool.{cond}
 use lib.Dec.{eqb}
 use denote.Ref.{now, ptr}
@@ -22,6 +23,14 @@ use Rattle.scalars.specs.declared.answer.Value.the-variants.{Is, Refused as Val
 use Rattle.recordings_index.specs.Index.{trailedAs}
 use Rattle.recordings_index.specs.declared.Trailed.{Trailed}
 use Rattle.recordings_index.specs.declared.Trailed.the-variants.{Found, Wrong}
+use Rattle.recordings_index.specs.Tail.{there, wanted}
+use Rattle.recordings_index.specs.Tail as Tail
+use Rattle.recordings_index.specs.Index.{reachedAs}
+use Rattle.recordings_index.specs.declared.Reached.{Reached}
+use Rattle.recordings_index.specs.declared.Reached.the-variants.{Found as Reached·Found, Wrong as Reached·Wrong, Wanted}
+use Rattle.recordings_reaching.specs.Reaching.{reachingAs}
+use Rattle.recordings_reaching.specs.declared.Reaching.{Reaching}
+use Rattle.recordings_reaching.specs.declared.Reaching.the-variants.{At as Reaching·At, Wanted as Reaching·Wanted, Refused as Reaching·Refused}
 use Rattle.ledger_judging.specs.Judging.{ordered}
 use Rattle.ledger_judging.specs.declared.Ordered.{Ordered}
 use Rattle.ledger_judging.specs.declared.Ordered.the-variants.{Granted, Refused as Ordered·Refused}
@@ -94,9 +103,11 @@ use Rattle.writing.proofs.Writer.add.Reads as add
 use Rattle.writing.proofs.Writer.add_scalar.Reads as add-scalar
 use Rattle.writing.proofs.Writer.close.Reads as close
 use Rattle.recordings_index.proofs.index.Reads as index
+use Rattle.recordings_index.proofs.index_tail.Reads as index-tail
 use Rattle.recordings.proofs.open.Reads as recording-open
 use Rattle.recordings.proofs.open_into.Reads as open-into
 use Rattle.recordings.proofs.ask.Reads as recording-ask
+use Rattle.recordings_reaching.proofs.ask_tail.Reads as ask-tail
 use Rattle.recordings_fronts.proofs.front_length.Reads as front-length
 use Rattle.recordings_fronts.proofs.divide.Reads as divide
 use Rattle.recordings_tails.proofs.put_tail.Reads as put-tail
@@ -229,6 +240,52 @@ trailed-apart (Found t) (Found u) e =
 trailed-apart (Found t) Wrong e = absurd (not-fine (sym e))
 trailed-apart Wrong (Found t) e = absurd (not-fine e)
 trailed-apart Wrong Wrong e = refl
+
+-- what was reached and what is wanted are not the same
+abbrev isThere : {A : Type 0} → Tail.Reached A → Type 0
+isThere (there a) = Unit {0}
+isThere (wanted w) = ⊥
+
+not-there : {A : Type 0} {w : ℕ} {a : A} → wanted w ≡ there a → ⊥
+not-there {A} e = subst (λ (x : Tail.Reached A). isThere x) (sym e) tt
+
+there-eq : {A : Type 0} {a b : A} → _≡_ {A = Tail.Reached A} (there a) (there b) → a ≡ b
+there-eq e = cc
+
+wanted-eq : {A : Type 0} {u v : ℕ} → _≡_ {A = Tail.Reached A} (wanted u) (wanted v) → u ≡ v
+wanted-eq e = cc
+
+reached-apart : (x y : Reached) → reachedAs x ≡ reachedAs y → x ≡ y
+reached-apart (Reached·Found t) (Reached·Found u) e =
+    let s = there-eq (fine-eq e) in
+    λ i.
+    Reached·Found
+    (record {
+      edition =
+          record { number = s i .edition .number; wide = s i .edition .lengthBytes; most = s i .edition .most };
+      place = s i .place;
+      entries = s i .entries;
+    })
+reached-apart (Reached·Found t) Reached·Wrong e = absurd (not-fine (sym e))
+reached-apart (Reached·Found t) (Wanted w) e = absurd (not-there (sym (fine-eq e)))
+reached-apart Reached·Wrong (Reached·Found t) e = absurd (not-fine e)
+reached-apart Reached·Wrong Reached·Wrong e = refl
+reached-apart Reached·Wrong (Wanted w) e = absurd (not-fine e)
+reached-apart (Wanted w) (Reached·Found t) e = absurd (not-there (fine-eq e))
+reached-apart (Wanted w) Reached·Wrong e = absurd (not-fine (sym e))
+reached-apart (Wanted w) (Wanted v) e = ap Wanted (wanted-eq (fine-eq e))
+
+reaching-apart : (x y : Reaching) → reachingAs x ≡ reachingAs y → x ≡ y
+reaching-apart (Reaching·At p) (Reaching·At q) e =
+    let s = there-eq (fine-eq e) in λ i. Reaching·At (record { start = s i .start; length = s i .size })
+reaching-apart (Reaching·At p) (Reaching·Wanted w) e = absurd (not-there (sym (fine-eq e)))
+reaching-apart (Reaching·At p) (Reaching·Refused r) e = absurd (not-fine (sym e))
+reaching-apart (Reaching·Wanted w) (Reaching·At q) e = absurd (not-there (fine-eq e))
+reaching-apart (Reaching·Wanted w) (Reaching·Wanted v) e = ap Reaching·Wanted (wanted-eq (fine-eq e))
+reaching-apart (Reaching·Wanted w) (Reaching·Refused r) e = absurd (not-fine (sym e))
+reaching-apart (Reaching·Refused r) (Reaching·At q) e = absurd (not-fine e)
+reaching-apart (Reaching·Refused r) (Reaching·Wanted w) e = absurd (not-fine e)
+reaching-apart (Reaching·Refused r) (Reaching·Refused q) e = ap Reaching·Refused (same-refusal r q e)
 
 asked-apart : (x y : Asked) → askedAs x ≡ askedAs y → x ≡ y
 asked-apart (At p) (At q) e = let s = fine-eq e in λ i. At (record { start = s i .start; length = s i .size })
@@ -486,6 +543,9 @@ blank-out = equated _ (λ κs a z e p. p .1)
 pub index-result : Determines index.Post (λ κs z e. z)
 index-result = determined (λ κs. trailedAs) (λ κs. trailed-apart) _ (λ κs a z e p. p)
 
+pub index-tail-result : Determines index-tail.Post (λ κs z e. z)
+index-tail-result = determined (λ κs. reachedAs) (λ κs. reached-apart) _ (λ κs a z e p. p)
+
 pub recording-open-result : Determines recording-open.Post (λ κs z e. z)
 recording-open-result = determined (λ κs. judged) (λ κs. judged-apart) _ (λ κs a z e p. p)
 
@@ -497,6 +557,9 @@ open-into-table = equated _ (λ κs a z e p. p .1)
 
 pub recording-ask-result : Determines recording-ask.Post (λ κs z e. z)
 recording-ask-result = determined (λ κs. askedAs) (λ κs. asked-apart) _ (λ κs a z e p. p)
+
+pub ask-tail-result : Determines ask-tail.Post (λ κs z e. z)
+ask-tail-result = determined (λ κs. reachingAs) (λ κs. reaching-apart) _ (λ κs a z e p. p)
 
 pub front-length-result : Determines front-length.Post (λ κs z e. z)
 front-length-result = determined (λ κs. judged) (λ κs. judged-apart) _ (λ κs a z e p. p)
@@ -535,11 +598,10 @@ pub salvage-out : Determines salvage.Post (λ κs z e. now (e .1 .0))
 salvage-out = equated _ (λ κs a z e p. p .1)
 
 pub blank-recording-result : Determines blank-recording.Post (λ κs z e. z)
-blank-recording-result =
-    determined blank-recording.Post (λ κs z e. z) (λ κs. judged) (λ κs. judged-apart) _ (λ κs a z e p. p .0)
+blank-recording-result = determined (λ κs. judged) (λ κs. judged-apart) _ (λ κs a z e p. p .0)
 
 pub blank-recording-out : Determines blank-recording.Post (λ κs z e. now (e .1 .0))
-blank-recording-out = equated blank-recording.Post (λ κs z e. now (e .1 .0)) _ (λ κs a z e p. p .1)
+blank-recording-out = equated _ (λ κs a z e p. p .1)
 
 -- The call of crate commands.
 pub command-result : Determines command.Post (λ κs z e. z)
@@ -842,73 +904,73 @@ c-close-answer = equated _ (λ κs a z e p. p .1)
 
 -- The calls of crate boundary_recordings.
 pub c-recording-open-result : Determines c-recording-open.Post (λ κs z e. z)
-c-recording-open-result = equated c-recording-open.Post (λ κs z e. z) _ (λ κs a z e p. p .0)
+c-recording-open-result = equated _ (λ κs a z e p. p .0)
 
 pub c-recording-open-answer : Determines c-recording-open.Post (λ κs z e. now (e .1 .0))
-c-recording-open-answer = equated c-recording-open.Post (λ κs z e. now (e .1 .0)) _ (λ κs a z e p. p .1)
+c-recording-open-answer = equated _ (λ κs a z e p. p .1)
 
 pub c-recording-open-into-result : Determines c-recording-open-into.Post (λ κs z e. z)
-c-recording-open-into-result = equated c-recording-open-into.Post (λ κs z e. z) _ (λ κs a z e p. p .0)
+c-recording-open-into-result = equated _ (λ κs a z e p. p .0)
 
 pub c-recording-open-into-table : Determines c-recording-open-into.Post (λ κs z e. now (e .1 .0))
-c-recording-open-into-table = equated c-recording-open-into.Post (λ κs z e. now (e .1 .0)) _ (λ κs a z e p. p .1 .0)
+c-recording-open-into-table = equated _ (λ κs a z e p. p .1 .0)
 
 pub c-recording-open-into-answer : Determines c-recording-open-into.Post (λ κs z e. now (e .1 .1 .0))
-c-recording-open-into-answer = equated c-recording-open-into.Post (λ κs z e. now (e .1 .1 .0)) _ (λ κs a z e p. p .1 .1)
+c-recording-open-into-answer = equated _ (λ κs a z e p. p .1 .1)
 
 pub c-recording-ask-result : Determines c-recording-ask.Post (λ κs z e. z)
-c-recording-ask-result = equated c-recording-ask.Post (λ κs z e. z) _ (λ κs a z e p. p .0)
+c-recording-ask-result = equated _ (λ κs a z e p. p .0)
 
 pub c-recording-ask-answer : Determines c-recording-ask.Post (λ κs z e. now (e .1 .1 .0))
-c-recording-ask-answer = equated c-recording-ask.Post (λ κs z e. now (e .1 .1 .0)) _ (λ κs a z e p. p .1)
+c-recording-ask-answer = equated _ (λ κs a z e p. p .1)
 
 pub c-salvage-result : Determines c-salvage.Post (λ κs z e. z)
-c-salvage-result = equated c-salvage.Post (λ κs z e. z) _ (λ κs a z e p. p .0)
+c-salvage-result = equated _ (λ κs a z e p. p .0)
 
 pub c-salvage-out : Determines c-salvage.Post (λ κs z e. now (e .1 .0))
-c-salvage-out = equated c-salvage.Post (λ κs z e. now (e .1 .0)) _ (λ κs a z e p. p .1 .0)
+c-salvage-out = equated _ (λ κs a z e p. p .1 .0)
 
 pub c-salvage-answer : Determines c-salvage.Post (λ κs z e. now (e .1 .1 .0))
-c-salvage-answer = equated c-salvage.Post (λ κs z e. now (e .1 .1 .0)) _ (λ κs a z e p. p .1 .1)
+c-salvage-answer = equated _ (λ κs a z e p. p .1 .1)
 
 -- The calls of crate boundary_commands.
 pub c-command-result : Determines c-command.Post (λ κs z e. z)
-c-command-result = equated c-command.Post (λ κs z e. z) _ (λ κs a z e p. p .0)
+c-command-result = equated _ (λ κs a z e p. p .0)
 
 pub c-command-answer : Determines c-command.Post (λ κs z e. now (e .1 .0))
-c-command-answer = equated c-command.Post (λ κs z e. now (e .1 .0)) _ (λ κs a z e p. p .1)
+c-command-answer = equated _ (λ κs a z e p. p .1)
 
 -- The calls of crate boundary_recorder.
 pub c-recording-add-result : Determines c-recording-add.Post (λ κs z e. z)
-c-recording-add-result = equated c-recording-add.Post (λ κs z e. z) _ (λ κs a z e p. p .0)
+c-recording-add-result = equated _ (λ κs a z e p. p .0)
 
 pub c-recording-add-out : Determines c-recording-add.Post (λ κs z e. now (e .1 .1 .1 .1 .0))
-c-recording-add-out = equated c-recording-add.Post (λ κs z e. now (e .1 .1 .1 .1 .0)) _ (λ κs a z e p. p .1 .0)
+c-recording-add-out = equated _ (λ κs a z e p. p .1 .0)
 
 pub c-recording-add-answer : Determines c-recording-add.Post (λ κs z e. now (e .1 .1 .1 .1 .1 .0))
-c-recording-add-answer = equated c-recording-add.Post (λ κs z e. now (e .1 .1 .1 .1 .1 .0)) _ (λ κs a z e p. p .1 .1)
+c-recording-add-answer = equated _ (λ κs a z e p. p .1 .1)
 
 pub c-recording-close-result : Determines c-recording-close.Post (λ κs z e. z)
-c-recording-close-result = equated c-recording-close.Post (λ κs z e. z) _ (λ κs a z e p. p .0)
+c-recording-close-result = equated _ (λ κs a z e p. p .0)
 
 pub c-recording-close-out : Determines c-recording-close.Post (λ κs z e. now (e .1 .1 .1 .0))
-c-recording-close-out = equated c-recording-close.Post (λ κs z e. now (e .1 .1 .1 .0)) _ (λ κs a z e p. p .1 .0)
+c-recording-close-out = equated _ (λ κs a z e p. p .1 .0)
 
 pub c-recording-close-answer : Determines c-recording-close.Post (λ κs z e. now (e .1 .1 .1 .1 .0))
-c-recording-close-answer = equated c-recording-close.Post (λ κs z e. now (e .1 .1 .1 .1 .0)) _ (λ κs a z e p. p .1 .1)
+c-recording-close-answer = equated _ (λ κs a z e p. p .1 .1)
 
 -- The calls of crate boundary_sums.
 pub c-sum-result : Determines c-sum.Post (λ κs z e. z)
-c-sum-result = equated c-sum.Post (λ κs z e. z) _ (λ κs a z e p. p .0)
+c-sum-result = equated _ (λ κs a z e p. p .0)
 
 pub c-sum-answer : Determines c-sum.Post (λ κs z e. now (e .1 .1 .1 .1 .1 .1 .1 .1 .1 .1 .0))
-c-sum-answer = equated c-sum.Post (λ κs z e. now (e .1 .1 .1 .1 .1 .1 .1 .1 .1 .1 .0)) _ (λ κs a z e p. p .1)
+c-sum-answer = equated _ (λ κs a z e p. p .1)
 
 pub c-difference-result : Determines c-difference.Post (λ κs z e. z)
-c-difference-result = equated c-difference.Post (λ κs z e. z) _ (λ κs a z e p. p .0)
+c-difference-result = equated _ (λ κs a z e p. p .0)
 
 pub c-difference-answer : Determines c-difference.Post (λ κs z e. now (e .1 .1 .1 .1 .1 .1 .1 .1 .1 .1 .0))
-c-difference-answer = equated c-difference.Post (λ κs z e. now (e .1 .1 .1 .1 .1 .1 .1 .1 .1 .1 .0)) _ (λ κs a z e p. p .1)
+c-difference-answer = equated _ (λ κs a z e p. p .1)
 
 -- The calls of crate pieces.
 pub put-result : Determines put.Post (λ κs z e. z)

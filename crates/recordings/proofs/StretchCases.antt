@@ -21,7 +21,7 @@ use Rattle.recordings_format.specs.Judge.{stretch}
 use Rattle.recordings.specs.Recordings.{sizeOf}
 
 -- within both limits it is judged as reading judges it
-stretch-read : (most : ℕ) (s : List ℕ) (at n : ℕ) → n ≤ most → most ≤ limit
+pub stretch-read : (most : ℕ) (s : List ℕ) (at n : ℕ) → n ≤ most → most ≤ limit
     → stretch most s at n ≡ partAt at (reading noTable (take n (drop at s)))
 unfolding stretch message reading
 stretch-read most s at n h k =

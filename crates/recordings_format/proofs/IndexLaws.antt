@@ -94,26 +94,37 @@ total-more [] k h = absurd (not-suc-le-zero h)
 total-more (n ∷ ns) zero h = omega arith
 total-more (n ∷ ns) (suc k) h = omega (arith, total-more ns k (omega arith))
 
--- a trailer that is right
+-- a trailer that is right, and begins at `at`
+pub record TrailerOf (at : ℕ) (t : Trailer) : Type 0 where
+  pub row : Row (t .edition)
+  pub few : t .entries ≤ mostMessages
+  pub fills : t .place + entrySize (t .edition) * t .entries ≡ at
+
+pub numbers-say : (number place entries at : ℕ) (t : Trailer) → trailerFrom number place entries at ≡ fine t → TrailerOf at t
+unfolding trailerFrom
+numbers-say number place entries at t q =
+    let a = bind-fine (editionOf number) _ q in
+    let e = a .0 in
+    let b = guarded (leb entries mostMessages) _ _ _ (a .2) in
+    let c = guarded (eqb (place + entrySize e * entries) at) _ _ _ (b .1) in
+    subst (λ (x : Trailer). TrailerOf at x) (fine-eq (c .1))
+    (record { row = found-row number e (a .1); few = leb-true _ _ (b .0); fills = eqb-true _ _ (c .0) })
+
+-- it is the last bytes
 pub record TrailerSays (s : List ℕ) (t : Trailer) : Type 0 where
   pub row : Row (t .edition)
   pub few : t .entries ≤ mostMessages
   pub fills : t .place + entrySize (t .edition) * t .entries + trailerSize ≡ length s
 
 pub trailer-says : (s : List ℕ) (t : Trailer) → trailer s ≡ fine t → TrailerSays s t
-unfolding trailer trailerFrom
+unfolding trailer
 trailer-says s t q =
     let at = length s - trailerSize in
     let z = guarded (leb trailerSize (length s)) _ _ _ q in
     let long : trailerSize ≤ length s = leb-true trailerSize (length s) (z .0) in
-    let a = bind-fine (editionOf (big s (at + 8) 2)) _ (z .1) in
-    let e = a .0 in
-    let b = guarded (leb (big s (at + 4) 4) mostMessages) _ _ _ (a .2) in
-    let index = entrySize e * big s (at + 4) 4 in
-    let c = guarded (eqb (big s at 4 + index) at) _ _ _ (b .1) in
-    let fills : big s at 4 + index ≡ at = eqb-true (big s at 4 + index) at (c .0) in
-    subst (λ (x : Trailer). TrailerSays s x) (fine-eq (c .1))
-    (record { row = found-row (big s (at + 8) 2) e (a .1); few = leb-true _ _ (b .0); fills = omega arith })
+    let f = numbers-say (big s (at + 8) 2) (big s at 4) (big s (at + 4) 4) at t (z .1) in
+    let fills = f .fills in
+    record { row = f .row; few = f .few; fills = omega arith }
 
 -- trailer and index that are right: the lengths are not too many, their entries and the trailer fill what follows the
 -- messages, and the entries state them

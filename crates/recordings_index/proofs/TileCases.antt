@@ -63,28 +63,28 @@ one-less size left k p end h e =
     go a b f g = omega arith
 
 -- the loop over the entries: k of them tile the bytes up to `at`, and the next stands at p
-pub record Tiling (s : List ℕ) (w place entries at p k : ℕ) : Type 0 where
+pub record Tiling (s : List ℕ) (w from entries end at p k : ℕ) : Type 0 where
   pub few : k ≤ entries
   pub fills : p + (4 + w) * (entries - k) + trailerSize ≡ length s
   pub bound : at ≤ k * 4294967296
-  pub same : tiled s w place entries ≡ taken (entriesFrom s w (entries - k) p at place)
+  pub same : tiled s w from entries end ≡ taken (entriesFrom s w (entries - k) p at end)
 
-pub tiling-start : {s : List ℕ} {w place entries : ℕ} → Trailing s w place entries → Tiling s w place entries 0 place 0
+pub tiling-start : {s : List ℕ} {w from entries end : ℕ} → Trailing s w from entries → Tiling s w from entries end 0 from 0
 unfolding tiled
-tiling-start {s} {w} {place} {entries} r =
+tiling-start {s} {w} {from} {entries} {end} r =
     let all : entries ≡ entries - 0 = omega arith in
     record {
       few = omega arith;
-      fills = ap (λ (n : ℕ). place + (4 + w) * n + trailerSize) (sym all) ∙ r .fills;
+      fills = ap (λ (n : ℕ). from + (4 + w) * n + trailerSize) (sym all) ∙ r .fills;
       bound = omega arith;
-      same = ap (λ (n : ℕ). taken (entriesFrom s w n place 0 place)) all;
+      same = ap (λ (n : ℕ). taken (entriesFrom s w n from 0 end)) all;
     }
 
-module _ {s : List ℕ} {w place entries at p k : ℕ} (r : Trailing s w place entries) (u : Tiling s w place entries at p k) where
-  pub tiling-end : entries ≤ k → eqb at place ≡ tiled s w place entries
+module _ {s : List ℕ} {w from entries end at p k : ℕ} (r : Trailing s w from entries) (u : Tiling s w from entries end at p k) where
+  pub tiling-end : entries ≤ k → eqb at end ≡ tiled s w from entries end
   tiling-end h =
       let none : entries - k ≡ 0 = omega arith in
-      sym (u .same ∙ ap (λ (m : ℕ). taken (entriesFrom s w m p at place)) none ∙ entry-end s w p at place)
+      sym (u .same ∙ ap (λ (m : ℕ). taken (entriesFrom s w m p at end)) none ∙ entry-end s w p at end)
 
   module _ (h : k < entries) where
     next-fills : p + (4 + w) + (4 + w) * (entries - (k + 1)) + trailerSize ≡ length s
@@ -102,20 +102,20 @@ module _ {s : List ℕ} {w place entries at p k : ℕ} (r : Trailing s w place e
     tiling-sum x b =
         let few = r .few in let bound = u .bound in let small = four-bytes w x (r .narrow) b in omega arith
 
-    here : tiled s w place entries ≡ taken (entriesFrom s w (suc (entries - (k + 1))) p at place)
+    here : tiled s w from entries end ≡ taken (entriesFrom s w (suc (entries - (k + 1))) p at end)
     here =
         let left : entries - k ≡ suc (entries - (k + 1)) = omega arith in
-        u .same ∙ ap (λ (m : ℕ). taken (entriesFrom s w m p at place)) left
+        u .same ∙ ap (λ (m : ℕ). taken (entriesFrom s w m p at end)) left
 
     start-there : numberAt s p 4 ≡ big s p 4
     start-there = let room = tiling-room in number-there s p 4 (omega arith) (omega arith)
 
-    pub tiling-wrong : (n : ℕ) → n ≡ numberAt s p 4 → (n ≡ at → ⊥) → false ≡ tiled s w place entries
+    pub tiling-wrong : (n : ℕ) → n ≡ numberAt s p 4 → (n ≡ at → ⊥) → false ≡ tiled s w from entries end
     tiling-wrong n e d =
-        sym (here ∙ entry-wrong s w (entries - (k + 1)) p at place (λ z. d (e ∙ start-there ∙ z)))
+        sym (here ∙ entry-wrong s w (entries - (k + 1)) p at end (λ z. d (e ∙ start-there ∙ z)))
 
     pub tiling-turn : (n m : ℕ) → n ≡ numberAt s p 4 → n ≡ at → m ≡ numberAt s (p + 4) w → m < 256 ^ w
-        → Tiling s w place entries (at + m) (p + (4 + w)) (k + 1)
+        → Tiling s w from entries end (at + m) (p + (4 + w)) (k + 1)
     tiling-turn n m e d f b =
         let room = tiling-room in
         let narrow = r .narrow in
@@ -129,6 +129,6 @@ module _ {s : List ℕ} {w place entries at p k : ℕ} (r : Trailing s w place e
           bound = omega arith;
           same =
               here
-              ∙ entry-right s w (entries - (k + 1)) p at place start
-              ∙ ap (λ (x : ℕ). taken (entriesFrom s w (entries - (k + 1)) (p + (4 + w)) (at + x) place)) size;
+              ∙ entry-right s w (entries - (k + 1)) p at end start
+              ∙ ap (λ (x : ℕ). taken (entriesFrom s w (entries - (k + 1)) (p + (4 + w)) (at + x) end)) size;
         }

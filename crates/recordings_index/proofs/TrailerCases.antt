@@ -9,8 +9,9 @@ use borrow.Author.Tests.{le-leb, lt-leb, eq-eqb, ne-eqb}
 use Rattle.sim0mq.specs.Answer.{fine, refused, big}
 use Rattle.numbers.specs.Numbers.{numberAt}
 use Rattle.recordings_format.specs.Edition.{first, second, editionIn, editionOf, mostMessages, trailerSize}
-use Rattle.recordings_format.specs.Judge.{trailerFrom, trailer}
+use Rattle.recordings_format.specs.Judge.{trailerFrom}
 use Rattle.recordings_format.proofs.EditionLaws.{found-row}
+use Rattle.recordings_index.specs.Tail.{trailerIn}
 use Rattle.recordings_index.specs.Index.{rowOf, knownAs, trailerAs}
 use Rattle.recordings_index.specs.declared.Edition.{Edition}
 use Rattle.recordings_index.specs.declared.Known.{Known}
@@ -72,19 +73,14 @@ pub number-there : (s : List ℕ) (at n : ℕ) → at + n ≤ length s → n ≤
 unfolding numberAt
 number-there s at n h k = simp (le-leb (at + n) (length s) h, le-leb n 8 k)
 
--- the last bytes
-pub trailer-short : (s : List ℕ) → length s < trailerSize → refused 18 0 ≡ trailer s
-unfolding trailer
-trailer-short s h = sym (simp (lt-leb trailerSize (length s) h))
-
-pub trailer-long : (s : List ℕ) (n place entries : ℕ) → trailerSize ≤ length s
+-- the last bytes of a file
+pub trailer-read : (m : ℕ) (s : List ℕ) (n place entries : ℕ) → trailerSize ≤ length s
     → place ≡ numberAt s (length s - trailerSize) 4 → entries ≡ numberAt s (length s - trailerSize + 4) 4
-    → n ≡ numberAt s (length s - trailerSize + 8) 2
-    → trailerFrom n place entries (length s - trailerSize) ≡ trailer s
-unfolding trailer trailerSize
-trailer-long s n place entries h a b c =
+    → n ≡ numberAt s (length s - trailerSize + 8) 2 → trailerFrom n place entries (m - trailerSize) ≡ trailerIn m s
+unfolding trailerIn trailerSize
+trailer-read m s n place entries h a b c =
     let at = length s - trailerSize in
     let p : place ≡ big s at 4 = a ∙ number-there s at 4 (omega arith) (omega arith) in
-    let m : entries ≡ big s (at + 4) 4 = b ∙ number-there s (at + 4) 4 (omega arith) (omega arith) in
+    let k : entries ≡ big s (at + 4) 4 = b ∙ number-there s (at + 4) 4 (omega arith) (omega arith) in
     let e : n ≡ big s (at + 8) 2 = c ∙ number-there s (at + 8) 2 (omega arith) (omega arith) in
-    simp (le-leb trailerSize (length s) h, p, m, e)
+    λ i. trailerFrom (e i) (p i) (k i) (m - trailerSize)

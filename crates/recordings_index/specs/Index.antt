@@ -16,6 +16,10 @@ use Rattle.recordings_index.specs.declared.Known.the-variants.{Row, Unkn
 use Rattle.recordings_index.specs.declared.Trailer.{Trailer}
 use Rattle.recordings_index.specs.declared.Trailed.{Trailed}
 use Rattle.recordings_index.specs.declared.Trailed.the-variants.{Found, Wrong}
+use Rattle.recordings_index.specs.declared.Reached.{Reached}
+use Rattle.recordings_index.specs.declared.Reached.the-variants.{Found as Reached·Found, Wrong as Reached·Wrong, Wanted}
+use Rattle.recordings_index.specs.Tail as T
+use Rattle.recordings_index.specs.Tail.{there, wanted}
 
 -- Each answer of the code, as the definitions have it: what is wrong is refused by 18 at 0.
 abbrev pub rowOf : Edition → E.Edition
@@ -40,18 +44,29 @@ abbrev pub summed : Answer Index → Answer J.Trailer
 summed (fine i) = fine (summary i)
 summed (refused k p) = refused k p
 
--- A trailer that was taken: so many entries from `place` on, not too many, in which a length has w bytes, no more than
+-- The same of the last bytes of a file.
+abbrev pub reachedAs : Reached → Answer (T.Reached J.Trailer)
+reachedAs (Reached·Found t) = fine (there (trailerAs t))
+reachedAs Reached·Wrong = refused 18 0
+reachedAs (Wanted w) = fine (wanted w)
+
+abbrev pub summedIn : Answer (T.Reached Index) → Answer (T.Reached J.Trailer)
+summedIn (fine (there i)) = fine (there (summary i))
+summedIn (fine (wanted w)) = fine (wanted w)
+summedIn (refused k p) = refused k p
+
+-- A trailer that was taken: so many entries from `from` on, not too many, in which a length has w bytes, no more than
 -- four; they fill the bytes before it.
-pub record Trailing (s : List ℕ) (w place entries : ℕ) : Type 0 where
+pub record Trailing (s : List ℕ) (w from entries : ℕ) : Type 0 where
   pub few : entries ≤ mostMessages
   pub narrow : w ≤ 4
-  pub fills : place + (4 + w) * entries + trailerSize ≡ length s
+  pub fills : from + (4 + w) * entries + trailerSize ≡ length s
 
 -- Was it taken?
 abbrev pub taken : {A : Type 0} → Answer A → Bool
 taken (fine a) = true
 taken (refused k p) = false
 
--- Do these entries tile the bytes before the index?
-unfoldable pub tiled : List ℕ → ℕ → ℕ → ℕ → Bool
-tiled s w place entries = taken (entriesFrom s w entries place 0 place)
+-- Do these entries tile the bytes up to `end`?
+unfoldable pub tiled : List ℕ → ℕ → ℕ → ℕ → ℕ → Bool
+tiled s w from entries end = taken (entriesFrom s w entries from 0 end)

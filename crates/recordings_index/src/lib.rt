@@ -1,9 +1,11 @@
 // The trailer and the index of a recording.
 ghost use mathlib.Core.Path.{_≡_};
-ghost use Prim.Native.Nat.{_<_};
-ghost use Rattle.recordings_format.specs.Edition.{editionOf};
-ghost use Rattle.recordings_format.specs.Judge.{trailerFrom, trailer, index as indexOf};
-ghost use Rattle.recordings_index.specs.Index.{knownAs, trailedAs, summed, Trailing, tiled};
+ghost use Prim.Native.Nat.{_<_, _≤_};
+ghost use lib.ListN.{length};
+ghost use Rattle.recordings_format.specs.Edition.{editionOf, trailerSize};
+ghost use Rattle.recordings_format.specs.Judge.{trailerFrom, index as indexOf};
+ghost use Rattle.recordings_index.specs.Index.{knownAs, trailedAs, summed, reachedAs, summedIn, Trailing, tiled};
+ghost use Rattle.recordings_index.specs.Tail.{trailerIn, indexIn};
 use numbers::number;
 use recordings_format::LENGTH_BYTES;
 use recordings_format::MOST;
@@ -79,27 +81,25 @@ fn trailer_from(n: usize, place: usize, entries: usize, at: usize) -> Trailed
     }
 }
 
-// The trailer: the last ten bytes.
-fn trailer_of(s: &[u8]) -> Trailed
-    ensures { λ r. ⌜ trailedAs r ≡ trailer (now (s .entry)) ⌝ }
+// The trailer of a file of n bytes that ends in these: the last ten of them.
+fn trailer_of(n: usize, tail: &[u8]) -> Trailed
+    requires { ⌜ (trailerSize ≤ length (now tail)) × (trailerSize ≤ n) ⌝ }
+    ensures { λ r. ⌜ trailedAs r ≡ trailerIn n (now (tail .entry)) ⌝ }
 {
-    if s.len() < TRAILER {
-        return Trailed::Wrong;
-    }
-    let at = s.len() - TRAILER;
-    let place = number(s, at, 4);
-    let entries = number(s, at + 4, 4);
-    let n = number(s, at + 8, 2);
-    trailer_from(n, place, entries, at)
+    let at = tail.len() - TRAILER;
+    let place = number(tail, at, 4);
+    let entries = number(tail, at + 4, 4);
+    let e = number(tail, at + 8, 2);
+    trailer_from(e, place, entries, n - TRAILER)
 }
 
-// Whether the entries of the index, in which a length has w bytes, tile the bytes before it.
-fn tiles(s: &[u8], w: usize, place: usize, entries: usize) -> bool
-    requires { ⌜ Trailing (now s) w place entries ⌝ }
-    ensures { λ r. ⌜ r ≡ tiled (now (s .entry)) w place entries ⌝ }
+// Whether the entries from `from` on, in which a length has w bytes, tile the bytes up to `end`.
+fn tiles(s: &[u8], w: usize, from: usize, entries: usize, end: usize) -> bool
+    requires { ⌜ Trailing (now s) w from entries ⌝ }
+    ensures { λ r. ⌜ r ≡ tiled (now (s .entry)) w from entries end ⌝ }
 {
     let mut at: usize = 0;
-    let mut p = place;
+    let mut p = from;
     let mut k: usize = 0;
     while k < entries {
         if number(s, p, 4) != at {
@@ -109,21 +109,55 @@ fn tiles(s: &[u8], w: usize, place: usize, entries: usize) -> bool
         p += 4 + w;
         k += 1;
     }
-    at == place
+    at == end
+}
+
+// What came of the last bytes of a file: what its trailer says; that trailer or index is wrong; or how many of its last
+// bytes are wanted.
+pub enum Reached {
+    Found(Trailer),
+    Wrong,
+    Wanted(usize),
+}
+
+// What trailer and index say of a file of n bytes that ends in these, where both are right; or how many of its last
+// bytes are wanted, where these do not reach the first entry.
+pub fn index_tail(n: usize, tail: &[u8]) -> Reached
+    ensures { λ r. ⌜ reachedAs r ≡ summedIn (indexIn n (now (tail .entry))) ⌝ }
+{
+    if n < TRAILER {
+        return Reached::Wrong;
+    }
+    if n < tail.len() {
+        return Reached::Wrong;
+    }
+    if tail.len() < TRAILER {
+        return Reached::Wanted(TRAILER);
+    }
+    match trailer_of(n, tail) {
+        Trailed::Wrong => Reached::Wrong,
+        Trailed::Found(t) => {
+            let want = n - t.place;
+            if tail.len() < want {
+                return Reached::Wanted(want);
+            }
+            let e = t.edition;
+            if !tiles(tail, e.wide, tail.len() - want, t.entries, t.place) {
+                return Reached::Wrong;
+            }
+            Reached::Found(t)
+        }
+    }
 }
 
 // What trailer and index say, where both are right: the edition, the place of the index, and the number of messages.
+// The whole recording reaches as far as is wanted.
 pub fn index(s: &[u8]) -> Trailed
     ensures { λ r. ⌜ trailedAs r ≡ summed (indexOf (now (s .entry))) ⌝ }
 {
-    match trailer_of(s) {
-        Trailed::Wrong => Trailed::Wrong,
-        Trailed::Found(t) => {
-            let e = t.edition;
-            if !tiles(s, e.wide, t.place, t.entries) {
-                return Trailed::Wrong;
-            }
-            Trailed::Found(t)
-        }
+    match index_tail(s.len(), s) {
+        Reached::Found(t) => Trailed::Found(t),
+        Reached::Wrong => Trailed::Wrong,
+        Reached::Wanted(_) => Trailed::Wrong,
     }
 }

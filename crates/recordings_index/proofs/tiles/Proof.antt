@@ -7,10 +7,10 @@ use Rattle.recordings_index.proofs.tiles.Statement.{statement}
 use Rattle.recordings_index.proofs.tiles.Tie as tie
 
 abbrev Inv-loop : tie.InvT-loop
-Inv-loop s w place entries at₀ p₀ k₀ at p k = Tiling s w place entries at p k
+Inv-loop s w from entries end at₀ p₀ k₀ at p k = Tiling s w from entries end at p k
 
 abbrev μ-loop : tie.MeasureT-loop
-μ-loop s w place entries at₀ p₀ k₀ at p k = entries - k
+μ-loop s w from entries end at₀ p₀ k₀ at p k = entries - k
 
 loop-holds : tie.Need-loop-holds Inv-loop μ-loop
 loop-holds c = tiling-start (c .before .pre)
