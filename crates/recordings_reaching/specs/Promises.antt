@@ -17,8 +17,8 @@ lastOf n s = drop (length s - n) s
 
 -- Asking by the last n bytes of the file s is refused as asking the file is; it finds a message that lies in the file
 -- and is short enough to be read, and then asking the file answers the same once reading accepts that message, and that
--- reading's refusal, placed in the file, where it does not; or it wants more bytes than it had, no more than the file has,
--- and no more than 32,778.
+-- reading's refusal, placed in the file, where it does not; or it wants more bytes than it had, no more than the file
+-- has, and no more than 32,778.
 abbrev pub AnswersAs : List ℕ → ℕ → ℕ → Answer (Reached Placed) → Type 0
 AnswersAs s n k (refused number place) = asking s k ≡ refused number place
 AnswersAs s n k (fine (there p)) =

@@ -9,8 +9,11 @@ use lines::part;
 use lines::spaced;
 use lines::starts;
 use recordings::Asked;
+use recordings_blanking::blank_recording;
 use recordings_format::MOST;
 use recordings_fronts::Stop;
+use recordings_reaching::Reaching;
+use recordings_reaching::ask_tail;
 use recordings_salvaging::Report;
 use recordings_salvaging::Salvaged;
 use recordings_salvaging::salvage;
@@ -28,6 +31,9 @@ const LONG: usize = LIMIT + 1;
 
 // How often a message can be added by one line: once more than a recording has messages.
 const TIMES: usize = MOST + 1;
+
+// How many bytes of an output are written at most.
+const SHOWN: usize = 300;
 
 // How many numbers a table has at most.
 const SLOTS: usize = 8;
@@ -421,6 +427,74 @@ fn cuts(s: &[u8]) {
     cut(s, n);
 }
 
+// Writes what blanking the bytes s into `out` answers, and of the output its bytes, where they are few, or how the copy
+// in it opens.
+fn copied(s: &[u8], out: &mut [u8]) {
+    judged(blank_recording(s, out));
+    if SHOWN < out.len() {
+        say(b", opens");
+        judged(recordings::open(part(out, 0, s.len())));
+    } else {
+        say(b", output");
+        listed(out);
+    }
+    say(b"\n");
+}
+
+// `blank A B N`, of the bytes s: writes what blanking them in an output of n bytes, each 170, answers, and the output.
+fn blanked(line: &[u8], s: &[u8], n: usize) {
+    let mut out = [170u8; BUFFER];
+    if BUFFER < n {
+        lost(line);
+        return;
+    }
+    say(line);
+    say(b":");
+    copied(s, &mut out[0..n]);
+}
+
+// Writes where message k of a file of n bytes stands that ends in these, or how many of its last bytes are wanted.
+fn reached(n: usize, tail: &[u8], k: usize) {
+    match ask_tail(n, tail, k) {
+        Reaching::At(m) => {
+            figure(m.start);
+            figure(m.length);
+        }
+        Reaching::Wanted(w) => {
+            say(b" wanted");
+            figure(w);
+        }
+        Reaching::Refused(r) => refused(r),
+    }
+    say(b"\n");
+}
+
+// `tail A B K` and `far A B N`: writes what asking for message k of a file of n bytes answers that ends in these.
+fn tail(line: &[u8], s: &[u8], n: usize, k: usize) {
+    say(line);
+    say(b":");
+    reached(n, s, k);
+}
+
+// Writes what asking for message k of the file s by its bytes from `at` on answers.
+fn tail_from(s: &[u8], at: usize, k: usize) {
+    say(b"from");
+    figure(at);
+    say(b":");
+    reached(s.len(), part(s, at, s.len()), k);
+}
+
+// `tails A B K`, of the bytes s: writes what asking for message k answers by each of their ends, from all of them to
+// none.
+fn tails(s: &[u8], k: usize) {
+    let mut at = 0;
+    while at < s.len() {
+        tail_from(s, at, k);
+        at += 1;
+    }
+    tail_from(s, at, k);
+}
+
 // `= TEXT`: writes the text.
 fn heading(line: &[u8]) {
     say(part(line, 2, line.len()));
@@ -468,6 +542,22 @@ fn reads(line: &[u8], out: &[u8]) {
     }
     if starts(line, b"ask ") {
         ask(line, s, n.c);
+        return;
+    }
+    if starts(line, b"blank ") {
+        blanked(line, s, n.c);
+        return;
+    }
+    if starts(line, b"tail ") {
+        tail(line, s, n.b, n.c);
+        return;
+    }
+    if starts(line, b"far ") {
+        tail(line, s, n.c, 0);
+        return;
+    }
+    if starts(line, b"tails ") {
+        tails(s, n.c);
         return;
     }
     if starts(line, b"table ") {
