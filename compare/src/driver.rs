@@ -5,7 +5,7 @@ mod parts;
 mod session;
 
 pub use pair::{Answer, Buffers, Difference};
-pub use parts::PartsDriver;
+pub use reading_parts::PartsDriver;
 
 use crate::generate::{self, Message};
 use crate::random::Random;

@@ -6,7 +6,7 @@
 mod parts;
 mod sums;
 
-pub use parts::COMMANDS;
+pub use reading_parts::COMMANDS;
 
 use crate::peer::{Reading, Refusal, State, Value};
 use crate::subject::{

@@ -13,13 +13,13 @@ use Rattle.sim0mq.specs.Header.{Header}
 use Rattle.sim0mq.specs.Table.{row as rowOf, rowSize}
 use Rattle.sim0mq.specs.Message.{noTable}
 use Rattle.sim0mq.proofs.Answers.{fine-eq, not-fine}
-use Rattle.parts.specs.Kept.{keptOne, keptAll, rowsIn}
-use Rattle.payload.specs.Parts.{payloadSteps}
-use Rattle.payload.specs.Kept.{keptOf}
-use Rattle.parts.proofs.KeptCases.{rows-within, kept-before, kept-here, kept-full}
-use Rattle.payload.proofs.KeptLaws.{payload-many, front-accepted}
-use Rattle.front.specs.Front.{frontOf}
-use Rattle.front.proofs.FrontCases.{reading-closed, open-within, open-refused, open-accepted}
+use Rattle.reading_parts.specs.Kept.{keptOne, keptAll, rowsIn}
+use Rattle.reading_payload.specs.Parts.{payloadSteps}
+use Rattle.reading_payload.specs.Kept.{keptOf}
+use Rattle.reading_parts.proofs.KeptCases.{rows-within, kept-before, kept-here, kept-full}
+use Rattle.reading_payload.proofs.KeptLaws.{payload-many, front-accepted}
+use Rattle.reading_front.specs.Front.{frontOf}
+use Rattle.reading_front.proofs.FrontCases.{reading-closed, open-within, open-refused, open-accepted}
 use Rattle.asking.specs.Asking.{nth, asked, fieldIn}
 use Rattle.asking.proofs.AskLaws.{asked-refused, asked-nth, nth-past, nth-finds}
 

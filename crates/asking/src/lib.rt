@@ -2,18 +2,18 @@
 ghost use mathlib.Core.Path.{_≡_};
 ghost use Prim.Native.Nat.{_+_};
 ghost use denote.Ref.{ptr};
-ghost use Rattle.fields.specs.Items.{fielded, seen};
+ghost use Rattle.reading_fields.specs.Items.{fielded, seen};
 ghost use Rattle.asking.specs.Asking.{asked, viewOf, viewPlace, fieldIn};
-use fields::Field;
-use fields::Fielded;
-use front::Lent;
-use front::opened;
-use header::Said;
-use numbers::wide32;
-use payload::payload;
+use reading_fields::Field;
+use reading_fields::Fielded;
+use reading_front::Lent;
+use reading_front::opened;
+use reading_header::Said;
+use reading_payload::payload;
 use sim0mq::Judged;
 use sim0mq::ROW;
 use sim0mq::Refusal;
+use sim0mq_numbers::wide32;
 
 // The field whose row this is.
 fn field_in(row: &[u32; ROW]) -> Field

@@ -1,8 +1,8 @@
 // Writes the blanked copy of the message on standard input, or the line that `list` prints where the message is
 // refused.
-use input::Input;
 use libc::STDERR_FILENO;
 use libc::STDOUT_FILENO;
+use programs_input::Input;
 use reading::Reading;
 use sim0mq::Judged;
 use sim0mq::LIMIT;
@@ -19,7 +19,7 @@ fn write(bytes: &[u8]) {
 // Writes the line of a refusal.
 fn refused(refusal: Refusal) {
     let mut line = [0u8; 72];
-    let n = listing::first_line(Reading::Refused(refusal), &mut line);
+    let n = programs_listing::first_line(Reading::Refused(refusal), &mut line);
     write(&line[..n]);
 }
 
@@ -36,7 +36,7 @@ fn print(message: &[u8]) {
 // cannot be read.
 fn main() {
     let mut bytes = [0u8; LIMIT + 1];
-    match input::fill(&mut bytes) {
+    match programs_input::fill(&mut bytes) {
         Input::Bytes(n) => print(&bytes[0..n]),
         Input::Failed => {
             io::write_all(STDERR_FILENO, b"blank: cannot read standard input\n");

@@ -1,7 +1,7 @@
 // Writes the blanked copy of the recording on standard input, or the line of its refusal.
-use input::Input;
 use libc::STDERR_FILENO;
 use libc::STDOUT_FILENO;
+use programs_input::Input;
 use reading::Reading;
 use recordings_blanking::blank_recording;
 use sim0mq::Judged;
@@ -24,7 +24,7 @@ fn write(bytes: &[u8]) {
 // Writes the line of a refusal.
 fn refused(refusal: Refusal) {
     let mut line = [0u8; 72];
-    let n = listing::first_line(Reading::Refused(refusal), &mut line);
+    let n = programs_listing::first_line(Reading::Refused(refusal), &mut line);
     write(&line[..n]);
 }
 
@@ -53,7 +53,7 @@ fn print(recording: &[u8]) {
 // Blanks standard input; a line to standard error where it cannot be read, or has more bytes than there is room for.
 fn main() {
     let mut bytes = room();
-    match input::fill(&mut bytes) {
+    match programs_input::fill(&mut bytes) {
         Input::Bytes(n) => {
             if RECORDING < n {
                 io::write_all(

@@ -19,14 +19,14 @@ use Rattle.sim0mq.specs.Allowed.{Each, none, more}
 use Rattle.sim0mq.proofs.BlankLaws.{Inside, inside-to, zeroed-long, blanked-long}
 use Rattle.sim0mq.proofs.Answers.{not-fine, fine-eq, bind-fine, guarded}
 use Rattle.sim0mq.proofs.Demand3.{copy-is-blank}
-use Rattle.buffers.specs.Placing.{putIn, clearedIn}
-use Rattle.payload.specs.Parts.{payloadSteps}
-use Rattle.payload.specs.Kept.{keptOf}
-use Rattle.parts.proofs.PartCases.{field-goes}
-use Rattle.payload.proofs.PayloadCases.{at-stopped, at-taken}
-use Rattle.payload.proofs.KeptLaws.{payload-many, taken-more, taken-none, kept-rows}
-use Rattle.front.specs.Front.{frontOf}
-use Rattle.front.proofs.FrontCases.{reading-closed, open-within, open-reading}
+use Rattle.sim0mq_buffers.specs.Placing.{putIn, clearedIn}
+use Rattle.reading_payload.specs.Parts.{payloadSteps}
+use Rattle.reading_payload.specs.Kept.{keptOf}
+use Rattle.reading_parts.proofs.PartCases.{field-goes}
+use Rattle.reading_payload.proofs.PayloadCases.{at-stopped, at-taken}
+use Rattle.reading_payload.proofs.KeptLaws.{payload-many, taken-more, taken-none, kept-rows}
+use Rattle.reading_front.specs.Front.{frontOf}
+use Rattle.reading_front.proofs.FrontCases.{reading-closed, open-within, open-reading}
 use Rattle.blanking.specs.Blanking.{copying, taken, fieldsOf, Copyable, Blankable}
 use Rattle.blanking.proofs.TurnLaws.{placed-past, placed-whole, placed-turn}
 

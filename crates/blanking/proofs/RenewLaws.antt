@@ -4,8 +4,8 @@ use mathlib.Core.Path.{_≡_, ap, sym, _∙_}
 use mathlib.Core.List.{List}
 use native.Mathlib.Omega.{arith}
 use lib.ListN.{length, getD, set, length-set}
-use Rattle.buffers.specs.Placing.{putIn, clearedIn}
-use Rattle.buffers.proofs.PlaceLaws.{placed-single, put-fits, zeroed-byte, clear-fits}
+use Rattle.sim0mq_buffers.specs.Placing.{putIn, clearedIn}
+use Rattle.sim0mq_buffers.proofs.PlaceLaws.{placed-single, put-fits, zeroed-byte, clear-fits}
 
 -- a text of one byte is put by one store
 put-byte : (out text : List ℕ) (at : ℕ) → length text ≡ 1 → at < length out → set out at (getD text 0 0) ≡ putIn out at text

@@ -10,8 +10,8 @@ use lib.Seq.{length-take-le, take-at, drop-at, drop-drop}
 use Rattle.sim0mq.specs.Table.{stored, placed}
 use Rattle.sim0mq.specs.Blank.{zeroed}
 use Rattle.sim0mq.proofs.PlaceLaws.{placed-nothing, placed-length, placed-on}
-use Rattle.buffers.specs.Placing.{putIn, clearedIn}
-use Rattle.buffers.proofs.PlaceLaws.{put-fits, clear-fits}
+use Rattle.sim0mq_buffers.specs.Placing.{putIn, clearedIn}
+use Rattle.sim0mq_buffers.proofs.PlaceLaws.{put-fits, clear-fits}
 
 module _ (out : List ℕ) (at : ℕ) where
   -- a text over the front of another, as long as that front

@@ -9,18 +9,18 @@ ghost use Rattle.sim0mq.specs.Blank.{blanked, blanking, outputAfter};
 ghost use Rattle.sim0mq.specs.Views.{judged};
 ghost use Rattle.blanking.specs.Blanking.{copying, fieldsOf, Copyable, Blankable};
 ghost use Rattle.sim0mq.specs.Table.{placed, rowSize};
-ghost use Rattle.buffers.specs.Placing.{putIn, clearedIn};
-use buffers::clear;
-use buffers::put;
-use front::Lent;
-use front::opened;
-use header::Said;
-use numbers::wide32;
-use payload::FEW;
-use payload::payload;
+ghost use Rattle.sim0mq_buffers.specs.Placing.{putIn, clearedIn};
+use reading_front::Lent;
+use reading_front::opened;
+use reading_header::Said;
+use reading_payload::FEW;
+use reading_payload::payload;
 use sim0mq::FIELDS;
 use sim0mq::Judged;
 use sim0mq::ROW;
+use sim0mq_buffers::clear;
+use sim0mq_buffers::put;
+use sim0mq_numbers::wide32;
 
 // The bytes of `text` in `out` from `at` on, and zero in the n bytes after them.
 fn renew(text: &[u8], out: &mut [u8], at: usize, n: usize)

@@ -4,12 +4,12 @@ ghost use mathlib.Core.Path.{_≡_};
 ghost use Rattle.sim0mq.specs.Views.{judged};
 ghost use Rattle.commands_page.specs.Judging.{commanded};
 ghost use Rattle.commands.specs.Names.{numberOf, commandAs};
-ghost use Rattle.crossing.specs.Numbers.{lengthNumbers};
-ghost use Rattle.giving.specs.Given.{returned, answerAfter};
+ghost use Rattle.boundary_crossing.specs.Numbers.{lengthNumbers};
+ghost use Rattle.boundary_giving.specs.Given.{returned, answerAfter};
+use boundary_crossing::give_length;
 use commands::Commanded;
 use commands::Name;
 use commands::command;
-use crossing::give_length;
 use sim0mq::Judged;
 
 // The number of a command's row.

@@ -9,14 +9,14 @@ use Rattle.sim0mq.specs.Views.{judged}
 use Rattle.sim0mq.specs.declared.Judged.{Judged}
 use Rattle.sim0mq.specs.declared.Judged.the-variants.{Accepted, Refused}
 use Rattle.sim0mq.specs.declared.Refusal.{Refusal}
-use Rattle.opening.specs.Opening.{bufferAfter}
+use Rattle.writing_opening.specs.Opening.{bufferAfter}
 use Rattle.recordings_format.specs.Edition.{newest}
 use Rattle.recordings_writing.specs.Recorder.{adding, closing, afterAdding, afterClosing}
 use Rattle.recordings_writing.specs.declared.Recorder.{Recorder}
 use Rattle.recordings_writing.specs.declared.Recorded.{Recorded}
-use Rattle.crossing.specs.Numbers.{lengthNumbers}
+use Rattle.boundary_crossing.specs.Numbers.{lengthNumbers}
 use Rattle.boundary_recorder.specs.Numbers.{stateNumbers, recordedNumbers, addNumbers, addedIn, closeNumbers, closedIn}
-use Rattle.casting.proofs.ScalarLaws.{truth-number}
+use Rattle.boundary_casting.proofs.ScalarLaws.{truth-number}
 
 pub recorded-refused : (said : Judged) (w : Recorder) (r : Refusal) → said ≡ Refused r
     → r .number ∷ r .place ∷ 0 ∷ w .written ∷ w .messages ∷ boolByte (w .closed) ∷ [] ≡ lengthNumbers (judged said) ++ stateNumbers w

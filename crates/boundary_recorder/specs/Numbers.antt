@@ -6,12 +6,12 @@ use mathlib.Core.List.{List, [], _∷_, _++_}
 use lib.Dec.{eqb}
 use lib.ListN.{length}
 use Rattle.sim0mq.specs.Views.{judged}
-use Rattle.opening.specs.Opening.{bufferAfter}
+use Rattle.writing_opening.specs.Opening.{bufferAfter}
 use Rattle.recordings_format.specs.Edition.{newest}
 use Rattle.recordings_writing.specs.Recorder.{adding, closing, afterAdding, afterClosing}
 use Rattle.recordings_writing.specs.declared.Recorder.{Recorder}
 use Rattle.recordings_writing.specs.declared.Recorded.{Recorded}
-use Rattle.crossing.specs.Numbers.{lengthNumbers}
+use Rattle.boundary_crossing.specs.Numbers.{lengthNumbers}
 
 -- The recorder's state, 3 numbers: written, messages, and 1 where it is closed; and the state of such numbers, which is
 -- closed by any but 0.

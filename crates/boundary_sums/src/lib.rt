@@ -2,12 +2,12 @@
 // three numbers of its mark, as `sim0mq_value` answers them, and so does the result.
 ghost use mathlib.Core.Path.{_≡_};
 ghost use Rattle.sums.specs.Sums.{sumOf, differenceOf};
-ghost use Rattle.casting.specs.Casting.{markFrom, scalarFrom, valueNumbers};
-ghost use Rattle.giving.specs.Given.{returned, answerAfter};
-use casting::give_value;
-use casting::scalar_from;
-use kinds::Mark;
-use kinds::Scalar;
+ghost use Rattle.boundary_casting.specs.Casting.{markFrom, scalarFrom, valueNumbers};
+ghost use Rattle.boundary_giving.specs.Given.{returned, answerAfter};
+use boundary_casting::give_value;
+use boundary_casting::scalar_from;
+use sim0mq_kinds::Mark;
+use sim0mq_kinds::Scalar;
 use sums::difference;
 use sums::sum;
 

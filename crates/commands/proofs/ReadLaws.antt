@@ -21,8 +21,8 @@ use Rattle.sim0mq.proofs.Answers.{not-fine}
 use Rattle.sim0mq.proofs.HeaderLaws.{header-sound}
 use Rattle.sim0mq.proofs.PayloadLaws.{fields-many}
 use Rattle.sim0mq.proofs.MessageLaws.{message-sound}
-use Rattle.header.specs.declared.Frame.{Frame}
-use Rattle.header.specs.Frames.{framed}
+use Rattle.reading_header.specs.declared.Frame.{Frame}
+use Rattle.reading_header.specs.Frames.{framed}
 use Rattle.reading.specs.declared.Found.{Found}
 use Rattle.reading.specs.declared.Answer.{Answer}
 use Rattle.reading.specs.declared.Reading.the-variants.{Accepted, Refused}

@@ -12,8 +12,6 @@ ghost use Rattle.commands_page.specs.Page.{numberOr, basic as basicOf, stateStr
 ghost use Rattle.commands_page.specs.Judging.{isWord, codeTaken, textTaken, passes as passesOf, wantIn, numberFrom, each as eachOf, numberRight, fieldsRight, looksAt, commandOf, commanded};
 ghost use Rattle.commands.specs.Names.{numberOf, commandAs};
 ghost use Rattle.commands.specs.Tables.{countRow, wantRow, wantOf, Cell, Held, Ids, done, fieldOf, commandedBy};
-use numbers::wide;
-use numbers::wide32;
 use reading::Reading;
 use reading::read;
 use sim0mq::CHANGE;
@@ -23,6 +21,8 @@ use sim0mq::NEW;
 use sim0mq::ROW;
 use sim0mq::Refusal;
 use sim0mq::refuse;
+use sim0mq_numbers::wide;
+use sim0mq_numbers::wide32;
 
 // The commands of the manual's chapter 4, in its order.
 pub enum Name {

@@ -1,11 +1,11 @@
 // How many people sleep on each deck: standard input is a recording, standard output a line for each deck and one for
 // the messages, or the refusal of opening it.
-use input::Input;
 use ledger_decks::Ledger;
 use ledger_recordings::Reckoned;
 use ledger_recordings::reckon;
 use libc::STDERR_FILENO;
 use libc::STDOUT_FILENO;
+use programs_input::Input;
 use sim0mq::Judged;
 use sim0mq::Refusal;
 
@@ -81,7 +81,7 @@ fn room() -> [u8; RECORDING + 1] {
 // Reckons standard input; a line to standard error where it cannot be read, or has more bytes than there is room for.
 fn main() {
     let mut bytes = room();
-    match input::fill(&mut bytes) {
+    match programs_input::fill(&mut bytes) {
         Input::Bytes(n) => {
             if RECORDING < n {
                 io::write_all(

@@ -11,15 +11,15 @@ use Rattle.sim0mq.specs.declared.Refusal.{Refusal}
 use Rattle.sim0mq.specs.declared.Judged.{Judged}
 use Rattle.sim0mq.specs.declared.Judged.the-variants.{Accepted, Refused}
 use Rattle.sim0mq.proofs.Answers.{not-fine, fine-eq}
-use Rattle.heads.specs.Heads.{headed}
-use Rattle.heads.specs.declared.Headed.{Headed}
-use Rattle.heads.specs.declared.Headed.the-variants.{Accepted as Headed·Accepted, Refused as Headed·Refused}
-use Rattle.fields.specs.Items.{fielded}
-use Rattle.fields.specs.declared.Fielded.{Fielded}
-use Rattle.fields.specs.declared.Fielded.the-variants.{Accepted as Fielded·Accepted, Refused as Fielded·Refused}
-use Rattle.scalars.specs.Scalars.{valued}
-use Rattle.scalars.specs.declared.answer.Value.{Value}
-use Rattle.scalars.specs.declared.answer.Value.the-variants.{Is, Refused as Value·Refused}
+use Rattle.reading_heads.specs.Heads.{headed}
+use Rattle.reading_heads.specs.declared.Headed.{Headed}
+use Rattle.reading_heads.specs.declared.Headed.the-variants.{Accepted as Headed·Accepted, Refused as Headed·Refused}
+use Rattle.reading_fields.specs.Items.{fielded}
+use Rattle.reading_fields.specs.declared.Fielded.{Fielded}
+use Rattle.reading_fields.specs.declared.Fielded.the-variants.{Accepted as Fielded·Accepted, Refused as Fielded·Refused}
+use Rattle.asking_scalars.specs.Scalars.{valued}
+use Rattle.asking_scalars.specs.declared.answer.Value.{Value}
+use Rattle.asking_scalars.specs.declared.answer.Value.the-variants.{Is, Refused as Value·Refused}
 use Rattle.recordings_index.specs.Index.{trailedAs}
 use Rattle.recordings_index.specs.declared.Trailed.{Trailed}
 use Rattle.recordings_index.specs.declared.Trailed.the-variants.{Found, Wrong}
@@ -56,48 +56,48 @@ use Rattle.sums_pairs.specs.declared.Quantity.{Quantity}
 use Rattle.sums_pairs.specs.declared.Quantity.the-variants.{Other}
 use Rattle.sums_pairs.specs.declared.Quantity.the-variants as Q
 use Rattle.sim0mq.proofs.refuse.Reads as sim0mq-refuse
-use Rattle.parts.proofs.part.Reads as part
-use Rattle.payload.proofs.payload.Reads as payload
-use Rattle.heads.proofs.head.Reads as head
-use Rattle.values.proofs.size.Reads as size
-use Rattle.values.proofs.values.Reads as values
-use Rattle.fields.proofs.outline.Reads as outline
-use Rattle.marks.proofs.mark.Reads as mark
-use Rattle.marks.proofs.mark_by.Reads as mark-by
-use Rattle.marks.proofs.marks.Reads as marks
-use Rattle.displays.proofs.currency_taken.Reads as currency-taken
-use Rattle.displays.proofs.display_taken.Reads as display-taken
-use Rattle.numbers.proofs.wide.Reads as wide
-use Rattle.numbers.proofs.wide32.Reads as wide32
-use Rattle.numbers.proofs.number.Reads as number
-use Rattle.numbers.proofs.count.Reads as count
-use Rattle.buffers.proofs.put.Reads as put-text
-use Rattle.buffers.proofs.clear.Reads as clear
-use Rattle.tables.proofs.counts.Reads as counts
-use Rattle.tables.proofs.marking.Reads as marking
-use Rattle.tables.proofs.width.Reads as width
-use Rattle.tables.proofs.last.Reads as last
-use Rattle.tables.proofs.lasts.Reads as lasts
-use Rattle.tables.proofs.per.Reads as per
-use Rattle.magic.proofs.magic.Reads as magic
-use Rattle.header.proofs.header.Reads as header
-use Rattle.header.proofs.id.Reads as id
-use Rattle.front.proofs.opened.Reads as opened
+use Rattle.reading_parts.proofs.part.Reads as part
+use Rattle.reading_payload.proofs.payload.Reads as payload
+use Rattle.reading_heads.proofs.head.Reads as head
+use Rattle.reading_values.proofs.size.Reads as size
+use Rattle.reading_values.proofs.values.Reads as values
+use Rattle.reading_fields.proofs.outline.Reads as outline
+use Rattle.sim0mq_marks.proofs.mark.Reads as mark
+use Rattle.sim0mq_marks.proofs.mark_by.Reads as mark-by
+use Rattle.sim0mq_marks.proofs.marks.Reads as marks
+use Rattle.sim0mq_displays.proofs.currency_taken.Reads as currency-taken
+use Rattle.sim0mq_displays.proofs.display_taken.Reads as display-taken
+use Rattle.sim0mq_numbers.proofs.wide.Reads as wide
+use Rattle.sim0mq_numbers.proofs.wide32.Reads as wide32
+use Rattle.sim0mq_numbers.proofs.number.Reads as number
+use Rattle.sim0mq_numbers.proofs.count.Reads as count
+use Rattle.sim0mq_buffers.proofs.put.Reads as put-text
+use Rattle.sim0mq_buffers.proofs.clear.Reads as clear
+use Rattle.sim0mq_tables.proofs.counts.Reads as counts
+use Rattle.sim0mq_tables.proofs.marking.Reads as marking
+use Rattle.sim0mq_tables.proofs.width.Reads as width
+use Rattle.sim0mq_tables.proofs.last.Reads as last
+use Rattle.sim0mq_tables.proofs.lasts.Reads as lasts
+use Rattle.sim0mq_tables.proofs.per.Reads as per
+use Rattle.reading_magic.proofs.magic.Reads as magic
+use Rattle.reading_header.proofs.header.Reads as header
+use Rattle.reading_header.proofs.id.Reads as id
+use Rattle.reading_front.proofs.opened.Reads as opened
 use Rattle.reading.proofs.read.Reads as read
 use Rattle.reading.proofs.judge.Reads as judge
 use Rattle.asking.proofs.ask.Reads as ask
 use Rattle.asking.proofs.view.Reads as view
-use Rattle.scalars.proofs.value.Reads as value
-use Rattle.signed.proofs.i8_of.Reads as i8-of
-use Rattle.signed.proofs.i16_of.Reads as i16-of
-use Rattle.signed.proofs.i32_of.Reads as i32-of
-use Rattle.signed.proofs.i64_of.Reads as i64-of
-use Rattle.kinds.proofs.float_of.Reads as float-of
-use Rattle.kinds.proofs.double_of.Reads as double-of
-use Rattle.kinds.proofs.float_with.Reads as float-with
-use Rattle.kinds.proofs.double_with.Reads as double-with
+use Rattle.asking_scalars.proofs.value.Reads as value
+use Rattle.sim0mq_signed.proofs.i8_of.Reads as i8-of
+use Rattle.sim0mq_signed.proofs.i16_of.Reads as i16-of
+use Rattle.sim0mq_signed.proofs.i32_of.Reads as i32-of
+use Rattle.sim0mq_signed.proofs.i64_of.Reads as i64-of
+use Rattle.sim0mq_kinds.proofs.float_of.Reads as float-of
+use Rattle.sim0mq_kinds.proofs.double_of.Reads as double-of
+use Rattle.sim0mq_kinds.proofs.float_with.Reads as float-with
+use Rattle.sim0mq_kinds.proofs.double_with.Reads as double-with
 use Rattle.blanking.proofs.blank.Reads as blank
-use Rattle.opening.proofs.write_header.Reads as write-header
+use Rattle.writing_opening.proofs.write_header.Reads as write-header
 use Rattle.writing.proofs.Writer.open.Reads as opening
 use Rattle.writing.proofs.Writer.add.Reads as add
 use Rattle.writing.proofs.Writer.add_scalar.Reads as add-scalar
@@ -128,17 +128,17 @@ use Rattle.ledger.proofs.empty.Reads as ledger-empty
 use Rattle.ledger.proofs.muster_framed.Reads as muster-framed
 use Rattle.ledger.proofs.muster.Reads as muster
 use Rattle.ledger_recordings.proofs.reckon.Reads as reckon
-use Rattle.puts.proofs.bits.Reads as bits
-use Rattle.puts.proofs.put_big.Reads as put-big
-use Rattle.puts.proofs.put_number.Reads as put-number
-use Rattle.encoding.proofs.encode.Reads as encode
-use Rattle.encoding.proofs.mark_taken.Reads as mark-taken
-use Rattle.crossing.proofs.give_read.Reads as give-read
-use Rattle.crossing.proofs.give_length.Reads as give-length
-use Rattle.crossing.proofs.give_view.Reads as give-view
-use Rattle.writer_crossing.proofs.give_wrote.Reads as give-wrote
-use Rattle.writer_crossing.proofs.writer_of.Reads as writer-of
-use Rattle.writer_crossing.proofs.count_type.Reads as count-type
+use Rattle.writing_puts.proofs.bits.Reads as bits
+use Rattle.writing_puts.proofs.put_big.Reads as put-big
+use Rattle.writing_puts.proofs.put_number.Reads as put-number
+use Rattle.writing_encoding.proofs.encode.Reads as encode
+use Rattle.writing_encoding.proofs.mark_taken.Reads as mark-taken
+use Rattle.boundary_crossing.proofs.give_read.Reads as give-read
+use Rattle.boundary_crossing.proofs.give_length.Reads as give-length
+use Rattle.boundary_crossing.proofs.give_view.Reads as give-view
+use Rattle.boundary_writer_crossing.proofs.give_wrote.Reads as give-wrote
+use Rattle.boundary_writer_crossing.proofs.writer_of.Reads as writer-of
+use Rattle.boundary_writer_crossing.proofs.count_type.Reads as count-type
 use Rattle.sums_quantities.proofs.lengths.Length.plus.Reads as length-plus
 use Rattle.sums_quantities.proofs.lengths.Length.plus_position.Reads as length-plus-position
 use Rattle.sums_quantities.proofs.lengths.Length.less.Reads as length-less
@@ -170,18 +170,18 @@ use Rattle.sums_pairs.proofs.add.Reads as add-quantities
 use Rattle.sums_pairs.proofs.subtract.Reads as subtract-quantities
 use Rattle.sums.proofs.sum.Reads as sum
 use Rattle.sums.proofs.difference.Reads as difference
-use Rattle.casting.proofs.give_value.Reads as give-value
-use Rattle.casting.proofs.scalar_from.Reads as scalar-from
-use Rattle.giving.proofs.give.Reads as give
-use Rattle.exports.proofs.sim0mq_read.Reads as c-read
-use Rattle.exports.proofs.sim0mq_judge.Reads as c-judge
-use Rattle.exports.proofs.sim0mq_value.Reads as c-value
-use Rattle.exports.proofs.sim0mq_view.Reads as c-view
-use Rattle.exports.proofs.sim0mq_blank.Reads as c-blank
-use Rattle.writer_exports.proofs.sim0mq_open.Reads as c-open
-use Rattle.writer_exports.proofs.sim0mq_add.Reads as c-add
-use Rattle.writer_exports.proofs.sim0mq_add_scalar.Reads as c-add-scalar
-use Rattle.writer_exports.proofs.sim0mq_close.Reads as c-close
+use Rattle.boundary_casting.proofs.give_value.Reads as give-value
+use Rattle.boundary_casting.proofs.scalar_from.Reads as scalar-from
+use Rattle.boundary_giving.proofs.give.Reads as give
+use Rattle.boundary_exports.proofs.sim0mq_read.Reads as c-read
+use Rattle.boundary_exports.proofs.sim0mq_judge.Reads as c-judge
+use Rattle.boundary_exports.proofs.sim0mq_value.Reads as c-value
+use Rattle.boundary_exports.proofs.sim0mq_view.Reads as c-view
+use Rattle.boundary_exports.proofs.sim0mq_blank.Reads as c-blank
+use Rattle.boundary_writer_exports.proofs.sim0mq_open.Reads as c-open
+use Rattle.boundary_writer_exports.proofs.sim0mq_add.Reads as c-add
+use Rattle.boundary_writer_exports.proofs.sim0mq_add_scalar.Reads as c-add-scalar
+use Rattle.boundary_writer_exports.proofs.sim0mq_close.Reads as c-close
 use Rattle.boundary_recordings.proofs.sim0mq_recording_open.Reads as c-recording-open
 use Rattle.boundary_recordings.proofs.sim0mq_recording_open_into.Reads as c-recording-open-into
 use Rattle.boundary_recordings.proofs.sim0mq_recording_ask.Reads as c-recording-ask
@@ -191,10 +191,10 @@ use Rattle.boundary_recorder.proofs.sim0mq_recording_add.Reads as c-recording-a
 use Rattle.boundary_recorder.proofs.sim0mq_recording_close.Reads as c-recording-close
 use Rattle.boundary_sums.proofs.sim0mq_sum.Reads as c-sum
 use Rattle.boundary_sums.proofs.sim0mq_difference.Reads as c-difference
-use Rattle.pieces.proofs.put.Reads as put
-use Rattle.pieces.proofs.number.Reads as decimal
-use Rattle.listing.proofs.listing.Reads as listing
-use Rattle.listing.proofs.first_line.Reads as first-line
+use Rattle.programs_pieces.proofs.put.Reads as put
+use Rattle.programs_pieces.proofs.number.Reads as decimal
+use Rattle.programs_listing.proofs.listing.Reads as listing
+use Rattle.programs_listing.proofs.first_line.Reads as first-line
 
 -- A contract says of an outcome, the result z and the parameters e at exit, whether it is allowed at the arguments a
 -- and the lifetimes κs. It determines what is seen of an outcome where any two that it allows at the same arguments

@@ -21,8 +21,8 @@ use Rattle.sim0mq.proofs.Stands.{Stands}
 use Rattle.sim0mq.proofs.FieldLaws.{after-at, fieldAt, field-complete}
 use Rattle.sim0mq.proofs.HeaderLaws.{frame-sound, scalar-size}
 use Rattle.sim0mq.proofs.Demand2.{fields-cover-the-payload}
-use Rattle.numbers.specs.Numbers.{numberAt}
-use Rattle.numbers.proofs.NumberCases.{number-there}
+use Rattle.sim0mq_numbers.specs.Numbers.{numberAt}
+use Rattle.sim0mq_numbers.proofs.NumberCases.{number-there}
 use Rattle.asking.specs.Asking.{nth}
 use Rattle.asking.proofs.AskLaws.{asked-nth, nth-finds}
 use Rattle.asking.proofs.PartLaws.{asked-parts}

@@ -10,7 +10,7 @@ use borrow.Author.Tests.{lt-ltb, le-ltb, eq-eqb, ne-eqb, ltb-true}
 use Rattle.sim0mq.specs.Answer.{Answer, fine, refused}
 use Rattle.sim0mq.specs.Field.{Field, outline, after}
 use Rattle.sim0mq.proofs.Answers.{bind-fine}
-use Rattle.numbers.specs.Numbers.{numberAt}
+use Rattle.sim0mq_numbers.specs.Numbers.{numberAt}
 use Rattle.senders_book.specs.Book.{alike}
 use Rattle.senders_book.proofs.StampLaws.{outline-within}
 use Rattle.ledger_decks.specs.declared.Deed.the-variants.{Joins, Moves, Leaves}

@@ -13,7 +13,7 @@ use Rattle.sim0mq.specs.Field.{Field, outline}
 use Rattle.sim0mq.specs.Header.{idCodes, statusCodes}
 use Rattle.sim0mq.specs.Message.{noTable, Reading, reading}
 use Rattle.sim0mq.proofs.Answers.{bind-fine, guarded, fine-eq}
-use Rattle.numbers.specs.Numbers.{numberAt}
+use Rattle.sim0mq_numbers.specs.Numbers.{numberAt}
 use Rattle.asking.specs.Asking.{nth}
 use Rattle.senders_book.specs.declared.Sender.{Sender}
 use Rattle.senders_book.specs.Taking.{framePlace, Entry, taking}

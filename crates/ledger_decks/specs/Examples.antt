@@ -35,8 +35,8 @@ use Rattle.sim0mq.specs.Header.{
 }
 use Rattle.sim0mq.specs.Message.{limit, enough, messageRest, message, reading}
 use Rattle.sim0mq.specs.Table.{placed}
-use Rattle.numbers.specs.Numbers.{numberAt}
-use Rattle.signed.specs.Signed.{twos}
+use Rattle.sim0mq_numbers.specs.Numbers.{numberAt}
+use Rattle.sim0mq_signed.specs.Signed.{twos}
 use Rattle.asking.specs.Asking.{nth}
 use Rattle.senders_book.specs.declared.Sender.{Sender}
 use Rattle.senders_book.specs.Book.{emptyBook, alike, sameId, holds, placeOf, freePlace, settling}

@@ -9,7 +9,7 @@ use Rattle.sim0mq.specs.Answer.{Answer, fine, refused, _>>=_, _>>_, guard}
 use Rattle.sim0mq.specs.Field.{Field, outline, after}
 use Rattle.sim0mq.specs.Header.{Frame}
 use Rattle.sim0mq.specs.Message.{noTable, Reading, reading}
-use Rattle.numbers.specs.Numbers.{numberAt}
+use Rattle.sim0mq_numbers.specs.Numbers.{numberAt}
 use Rattle.asking.specs.Asking.{nth}
 use Rattle.senders_book.specs.declared.Sender.{Sender}
 use Rattle.senders_book.specs.Book.{alike}

@@ -4,19 +4,19 @@ ghost use Prim.Native.Nat.{_+_, _≤_};
 ghost use lib.ListN.{length};
 ghost use Rattle.sim0mq.specs.Answer.{fine, refused as refusal};
 ghost use Rattle.sim0mq.specs.Field.{outline as outlineOf};
-ghost use Rattle.fields.specs.Items.{seen, fielded};
+ghost use Rattle.reading_fields.specs.Items.{seen, fielded};
 ghost use Rattle.ledger_decks.specs.Mustering.{isMuster, fieldsFor, joining, moving, leaving, deedOf, following};
 ghost use Rattle.ledger_judging.specs.Judging.{ordered, deedAfter, orderingBy};
-use fields::Field;
-use fields::Fielded;
-use fields::outline;
 use ledger_decks::DECK_HEADS;
 use ledger_decks::DECKS;
 use ledger_decks::Deed;
-use numbers::number;
+use reading_fields::Field;
+use reading_fields::Fielded;
+use reading_fields::outline;
 use sim0mq::CHANGE;
 use sim0mq::NEW;
 use sim0mq::Refusal;
+use sim0mq_numbers::number;
 
 // What the ledger says to a message: what it does; or the refusal.
 pub enum Ordered {

@@ -12,7 +12,6 @@ ghost use Rattle.ledger_recordings.specs.Reckoning.{reckoning, reckonedA
 use ledger::Mustered;
 use ledger::muster_framed;
 use ledger_decks::Ledger;
-use numbers::number;
 use reading::Reading;
 use reading::judge;
 use recordings_index::Trailed;
@@ -21,6 +20,7 @@ use recordings_index::index;
 use senders_book::Book;
 use sim0mq::Judged;
 use sim0mq::Refusal;
+use sim0mq_numbers::number;
 
 // What a recording comes to: how many messages were applied, or the refusal of opening it; how many were refused and
 // passed over; and the ledger after them, which is empty where the recording does not open.

@@ -18,19 +18,19 @@ use Rattle.sim0mq.specs.Message.{limit, enough, readingOf, stepsOf, reading, ta
 use Rattle.sim0mq.specs.Demand2.{cutFrames}
 use Rattle.sim0mq.proofs.Answers.{not-fine}
 use Rattle.sim0mq.proofs.HeaderLaws.{header-sound}
-use Rattle.payload.specs.Parts.{payloadSteps}
-use Rattle.payload.specs.Kept.{keptOf}
-use Rattle.payload.proofs.PayloadCases.{at-stopped, at-taken}
-use Rattle.payload.proofs.KeptLaws.{payload-many, kept-rows}
-use Rattle.numbers.specs.Numbers.{Below}
+use Rattle.reading_payload.specs.Parts.{payloadSteps}
+use Rattle.reading_payload.specs.Kept.{keptOf}
+use Rattle.reading_payload.proofs.PayloadCases.{at-stopped, at-taken}
+use Rattle.reading_payload.proofs.KeptLaws.{payload-many, kept-rows}
+use Rattle.sim0mq_numbers.specs.Numbers.{Below}
 use Rattle.sim0mq.specs.declared.Judged.{Judged}
 use Rattle.sim0mq.specs.declared.Judged.the-variants.{Accepted as Judged·Accepted, Refused as Judged·Refused}
-use Rattle.header.specs.declared.Frame.{Frame}
-use Rattle.header.specs.Frames.{framed}
+use Rattle.reading_header.specs.declared.Frame.{Frame}
+use Rattle.reading_header.specs.Frames.{framed}
 use Rattle.reading.specs.declared.Reading.the-variants.{Accepted}
 use Rattle.reading.specs.Rows.{rowsAfter, filled, Fillable}
-use Rattle.front.specs.Front.{frontOf}
-use Rattle.front.proofs.FrontCases.{reading-closed, open-parts, open-within, open-reading, open-refused, open-accepted}
+use Rattle.reading_front.specs.Front.{frontOf}
+use Rattle.reading_front.proofs.FrontCases.{reading-closed, open-parts, open-within, open-reading, open-refused, open-accepted}
 use Rattle.reading.specs.Answers.{answered, refusedAt, answerOf}
 
 -- the eight frames, and the steps of fields that are moved

@@ -6,9 +6,9 @@ use Rattle.sim0mq.specs.Answer as S
 use Rattle.sim0mq.specs.Answer.{fine, refused}
 use Rattle.sim0mq.specs.Message as M
 use Rattle.sim0mq.specs.Message.{stepsOf}
-use Rattle.header.specs.declared.Frame.{Frame}
-use Rattle.header.specs.Frames.{framed}
-use Rattle.front.specs.Front.{noFrames}
+use Rattle.reading_header.specs.declared.Frame.{Frame}
+use Rattle.reading_header.specs.Frames.{framed}
+use Rattle.reading_front.specs.Front.{noFrames}
 use Rattle.reading.specs.declared.Found.{Found}
 use Rattle.reading.specs.declared.Reading.{Reading}
 use Rattle.reading.specs.declared.Reading.the-variants.{Accepted, Refused}

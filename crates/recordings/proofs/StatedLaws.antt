@@ -9,7 +9,7 @@ use lib.ListN.{length, take, getD}
 use Rattle.sim0mq.specs.Answer.{Answer, fine, refused}
 use Rattle.sim0mq.specs.Message.{limit}
 use Rattle.sim0mq.proofs.Answers.{not-fine, fine-eq}
-use Rattle.numbers.specs.Numbers.{numberAt}
+use Rattle.sim0mq_numbers.specs.Numbers.{numberAt}
 use Rattle.dividing.specs.Run.{total}
 use Rattle.recordings_format.specs.Edition as E
 use Rattle.recordings_format.specs.Edition.{entrySize, mostMessages, trailerSize}

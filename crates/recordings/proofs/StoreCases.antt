@@ -8,7 +8,7 @@ use native.Mathlib.Numerals.{add-one}
 use lib.ListN.{length, take, drop, getD, set, length-set}
 use lib.Seq.{take-all, length-take-le}
 use Rattle.sim0mq.specs.Table.{placed, stored}
-use Rattle.buffers.proofs.PlaceLaws.{placed-byte}
+use Rattle.sim0mq_buffers.proofs.PlaceLaws.{placed-byte}
 use Rattle.sim0mq.proofs.PlaceLaws.{placed-nothing, placed-length, placed-on}
 use Rattle.dividing.specs.Run.{total}
 use Rattle.recordings_format.specs.Judge.{index, placeSize, places}

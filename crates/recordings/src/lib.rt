@@ -7,7 +7,6 @@ ghost use Rattle.sim0mq.specs.Table.{placed, stored};
 ghost use Rattle.sim0mq.specs.Views.{judged};
 ghost use Rattle.recordings_format.specs.Judge.{index as indexOf, stretch as stretchOf, placeSize, opening, places, placesAfter, asking};
 ghost use Rattle.recordings.specs.Recordings.{askedAs, Stated, lengthsIn, entryIn, numbersOf, Storable, sizeOf, countOf};
-use numbers::number;
 use reading::Reading;
 use reading::judge;
 use recordings_index::Trailed;
@@ -15,6 +14,7 @@ use recordings_index::Trailer;
 use recordings_index::index;
 use sim0mq::Judged;
 use sim0mq::Refusal;
+use sim0mq_numbers::number;
 
 // How many numbers a message has in a table: its start and its length.
 pub const PLACE: usize = 2;

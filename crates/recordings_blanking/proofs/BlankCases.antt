@@ -18,8 +18,8 @@ use Rattle.sim0mq.specs.Table.{placed, stored}
 use Rattle.sim0mq.specs.Allowed.{joined}
 use Rattle.sim0mq.proofs.Answers.{not-fine}
 use Rattle.sim0mq.proofs.PlaceLaws.{placed-nothing, placed-length, placed-on}
-use Rattle.buffers.specs.Placing.{putIn}
-use Rattle.buffers.proofs.PlaceLaws.{put-fits}
+use Rattle.sim0mq_buffers.specs.Placing.{putIn}
+use Rattle.sim0mq_buffers.proofs.PlaceLaws.{put-fits}
 use Rattle.dividing.specs.Front.{Taken}
 use Rattle.dividing.specs.Run.{stretches, total}
 use Rattle.recordings_format.specs.Judge.{Index, index, opening, placedIn}

@@ -12,13 +12,13 @@ ghost use Rattle.recordings.specs.Recordings.{Stated, lengthsIn};
 ghost use Rattle.recordings_blanking.specs.Blanking.{copiesIn, blankingRecording};
 ghost use Rattle.recordings_blanking.specs.Copying.{Accepted};
 use blanking::blank;
-use buffers::put;
-use numbers::number;
 use recordings::open;
 use recordings_index::Trailed;
 use recordings_index::Trailer;
 use recordings_index::index;
 use sim0mq::Judged;
+use sim0mq_buffers::put;
+use sim0mq_numbers::number;
 
 // How many bytes message k has, as the index of this trailer states it.
 fn length_of(s: &[u8], t: Trailer, k: usize) -> usize

@@ -10,9 +10,9 @@ use Rattle.sim0mq.specs.Answer.{fine, big}
 use Rattle.sim0mq.specs.Message.{noTable}
 use Rattle.sim0mq.specs.Allowed.{Each, none, more, joined}
 use Rattle.sim0mq.proofs.Stands.{Stands, stands-to, stands-left, stands-right, stands-self, part-back}
-use Rattle.numbers.specs.Bytes.{bigBytes}
-use Rattle.puts.proofs.PlaceLaws.{big-length}
-use Rattle.puts.proofs.NumberLaws.{number-read}
+use Rattle.sim0mq_numbers.specs.Bytes.{bigBytes}
+use Rattle.writing_puts.proofs.PlaceLaws.{big-length}
+use Rattle.writing_puts.proofs.NumberLaws.{number-read}
 use Rattle.dividing.specs.Front.{Taken}
 use Rattle.dividing.specs.Run.{total}
 use Rattle.recordings_format.specs.Edition.{Edition, entrySize, mostMessages, trailerSize}

@@ -14,9 +14,9 @@ use Rattle.sim0mq.specs.Message.{noTable, message}
 use Rattle.sim0mq.specs.Allowed.{Each, none, more, joined}
 use Rattle.sim0mq.proofs.Answers.{guarded, guarded-bind, bind-fine, part-fine, fine-eq}
 use Rattle.sim0mq.proofs.Stands.{Stands, stands-to, stands-nil, stands-join, stands-self, stands-same, part, stands-part, part-back}
-use Rattle.numbers.specs.Bytes.{bigBytes}
-use Rattle.numbers.proofs.ByteLaws.{bytes-back, big-fits}
-use Rattle.puts.proofs.PlaceLaws.{big-length}
+use Rattle.sim0mq_numbers.specs.Bytes.{bigBytes}
+use Rattle.sim0mq_numbers.proofs.ByteLaws.{bytes-back, big-fits}
+use Rattle.writing_puts.proofs.PlaceLaws.{big-length}
 use Rattle.dividing.specs.Front.{Taken}
 use Rattle.dividing.specs.Run.{stretches, total}
 use Rattle.dividing.proofs.RunLaws.{stretches-joined}

@@ -6,8 +6,8 @@ use native.Mathlib.Omega.{arith}
 use native.Mathlib.Nat.{suc-mul, mul-suc, mul-zero, mul-le-mul-right}
 use lib.ListN.{length, length-append, length-map}
 use Rattle.sim0mq.specs.Allowed.{Each, none, more, joined}
-use Rattle.numbers.specs.Bytes.{bigBytes}
-use Rattle.puts.proofs.PlaceLaws.{big-length}
+use Rattle.sim0mq_numbers.specs.Bytes.{bigBytes}
+use Rattle.writing_puts.proofs.PlaceLaws.{big-length}
 use Rattle.dividing.specs.Front.{Taken}
 use Rattle.dividing.specs.Run.{total}
 use Rattle.dividing.proofs.FrontLaws.{taken-short}

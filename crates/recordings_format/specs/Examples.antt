@@ -11,7 +11,7 @@ use Rattle.sim0mq.specs.Payload.{payloadFrom, payload, moved, steps}
 use Rattle.sim0mq.specs.Header.{among, statusTaken, fieldsTaken, literal, digit, magic, frame, status, declared, header}
 use Rattle.sim0mq.specs.Message.{noTable, limit, enough, messageRest, message}
 use Rattle.sim0mq.specs.Examples.{headerOfS, sample}
-use Rattle.numbers.specs.Bytes.{bigBytes}
+use Rattle.sim0mq_numbers.specs.Bytes.{bigBytes}
 use Rattle.dividing.specs.Run.{total}
 use Rattle.recordings_format.specs.Edition.{first, second, editionIn, mostMessages, trailerSize}
 use Rattle.recordings_format.specs.Text.{indexText, recordingText}

@@ -6,7 +6,7 @@ use mathlib.Core.Path.{_≡_}
 use mathlib.Core.List.{List, [], _∷_, _++_, map}
 use lib.ListN.{length}
 use Rattle.sim0mq.specs.Allowed.{Each, joined}
-use Rattle.numbers.specs.Bytes.{bigBytes}
+use Rattle.sim0mq_numbers.specs.Bytes.{bigBytes}
 use Rattle.dividing.specs.Front.{Taken}
 use Rattle.dividing.specs.Run.{total}
 use Rattle.recordings_format.specs.Edition.{Edition, editions, Listed, mostMessages}

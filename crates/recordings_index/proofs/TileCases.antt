@@ -10,7 +10,7 @@ use lib.ListN.{length}
 use lib.Dec.{eqb}
 use borrow.Author.Tests.{eq-eqb, ne-eqb}
 use Rattle.sim0mq.specs.Answer.{Answer, fine, refused, _>>=_, _>>_, guard, big}
-use Rattle.numbers.specs.Numbers.{numberAt}
+use Rattle.sim0mq_numbers.specs.Numbers.{numberAt}
 use Rattle.recordings_format.specs.Edition.{mostMessages, trailerSize}
 use Rattle.recordings_format.specs.Judge.{entriesFrom}
 use Rattle.recordings_index.specs.Index.{Trailing, taken, tiled}

@@ -7,7 +7,7 @@ use native.Mathlib.Nat.{mul-le-mul}
 use lib.ListN.{length}
 use borrow.Author.Tests.{le-leb, lt-leb, eq-eqb, ne-eqb}
 use Rattle.sim0mq.specs.Answer.{fine, refused, big}
-use Rattle.numbers.specs.Numbers.{numberAt}
+use Rattle.sim0mq_numbers.specs.Numbers.{numberAt}
 use Rattle.recordings_format.specs.Edition.{first, second, editionIn, editionOf, mostMessages, trailerSize}
 use Rattle.recordings_format.specs.Judge.{trailerFrom}
 use Rattle.recordings_format.proofs.EditionLaws.{found-row}

@@ -6,12 +6,12 @@ ghost use Rattle.recordings_format.specs.Edition.{editionOf, trailerSize};
 ghost use Rattle.recordings_format.specs.Judge.{trailerFrom, index as indexOf};
 ghost use Rattle.recordings_index.specs.Index.{knownAs, trailedAs, summed, reachedAs, summedIn, Trailing, tiled};
 ghost use Rattle.recordings_index.specs.Tail.{trailerIn, indexIn};
-use numbers::number;
 use recordings_format::LENGTH_BYTES;
 use recordings_format::MOST;
 use recordings_format::NEWEST;
 use recordings_format::TRAILER;
 use sim0mq::LIMIT;
+use sim0mq_numbers::number;
 
 // An edition: its number, the bytes of a length in its index, and the most bytes of a message.
 pub struct Edition {

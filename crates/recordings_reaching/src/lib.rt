@@ -4,12 +4,12 @@ ghost use Prim.Native.Nat.{_<_};
 ghost use Rattle.recordings.specs.Recordings.{entryIn};
 ghost use Rattle.recordings_index.specs.Tail.{indexIn};
 ghost use Rattle.recordings_reaching.specs.Reaching.{askingIn, reachingAs, StatedIn, lengthsBy};
-use numbers::number;
 use recordings::Placed;
 use recordings_index::Reached;
 use recordings_index::Trailer;
 use recordings_index::index_tail;
 use sim0mq::Refusal;
+use sim0mq_numbers::number;
 
 // What asking by the last bytes answers: where the message stands; how many of the file's last bytes are wanted, where
 // these do not reach the first entry; or the refusal.

@@ -12,7 +12,7 @@ use Rattle.sim0mq.specs.Answer.{refused}
 use Rattle.sim0mq.specs.Header.{literal, magic, header}
 use Rattle.sim0mq.specs.Message.{noTable, message}
 use Rattle.sim0mq.specs.Allowed.{Each, none, more, joined}
-use Rattle.numbers.specs.Bytes.{bigBytes}
+use Rattle.sim0mq_numbers.specs.Bytes.{bigBytes}
 use Rattle.dividing.specs.Front.{Taken, frontOf, frontLength}
 use Rattle.dividing.specs.Run.{Stop, atMost, atFault, stopped, runFrom, total}
 use Rattle.dividing.proofs.FrontLaws.{taken-wider}

@@ -19,9 +19,9 @@ use Rattle.sim0mq.specs.declared.Judged.the-variants.{Accepted as Judged·Accep
 use Rattle.sim0mq.specs.declared.Refusal.{Refusal}
 use Rattle.sim0mq.proofs.Answers.{not-fine, fine-eq}
 use Rattle.sim0mq.proofs.PlaceLaws.{placed-length}
-use Rattle.buffers.specs.Placing.{putIn}
-use Rattle.buffers.proofs.PlaceLaws.{put-fits}
-use Rattle.opening.specs.Opening.{bufferAfter}
+use Rattle.sim0mq_buffers.specs.Placing.{putIn}
+use Rattle.sim0mq_buffers.proofs.PlaceLaws.{put-fits}
+use Rattle.writing_opening.specs.Opening.{bufferAfter}
 use Rattle.dividing.specs.Run.{Run, runFrom, stretches, total}
 use Rattle.dividing.proofs.RunLaws.{run-is}
 use Rattle.recordings_fronts.specs.Fronts.{dividedOf}

@@ -4,7 +4,6 @@ ghost use lib.ListN.{length};
 ghost use Rattle.recordings_format.specs.Edition.{newest};
 ghost use Rattle.recordings_salvaging.specs.Salvage.{salvage as salvageOf, outputAfter};
 ghost use Rattle.recordings_salvaging.specs.Saving.{salvagedAs, Saveable};
-use buffers::put;
 use recordings_format::MOST;
 use recordings_fronts::Divided;
 use recordings_fronts::Stop;
@@ -12,6 +11,7 @@ use recordings_fronts::divide;
 use recordings_tails::put_tail;
 use sim0mq::Judged;
 use sim0mq::Refusal;
+use sim0mq_buffers::put;
 
 // What is reported: the new recording's length, how many messages were kept, how many bytes dropped, and why it
 // stopped.

@@ -15,11 +15,11 @@ use Rattle.sim0mq.specs.Table.{placed}
 use Rattle.sim0mq.specs.Message.{limit}
 use Rattle.sim0mq.proofs.Answers.{fine-eq, guarded, and-true}
 use Rattle.sim0mq.proofs.PlaceLaws.{placed-nothing, placed-length, placed-on}
-use Rattle.buffers.specs.Placing.{putIn}
-use Rattle.buffers.proofs.PlaceLaws.{put-fits}
-use Rattle.numbers.specs.Bytes.{bigBytes}
-use Rattle.opening.specs.Opening.{bufferAfter}
-use Rattle.puts.proofs.PlaceLaws.{big-length}
+use Rattle.sim0mq_buffers.specs.Placing.{putIn}
+use Rattle.sim0mq_buffers.proofs.PlaceLaws.{put-fits}
+use Rattle.sim0mq_numbers.specs.Bytes.{bigBytes}
+use Rattle.writing_opening.specs.Opening.{bufferAfter}
+use Rattle.writing_puts.proofs.PlaceLaws.{big-length}
 use Rattle.sim0mq.specs.Allowed.{Each, none, more}
 use Rattle.dividing.specs.Front.{Taken}
 use Rattle.dividing.specs.Run.{total}

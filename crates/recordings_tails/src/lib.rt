@@ -4,12 +4,10 @@ ghost use Prim.Native.Nat.{_+_, _≤_};
 ghost use lib.ListN.{length};
 ghost use Rattle.sim0mq.specs.Table.{placed};
 ghost use Rattle.sim0mq.specs.Views.{judged};
-ghost use Rattle.opening.specs.Opening.{bufferAfter};
+ghost use Rattle.writing_opening.specs.Opening.{bufferAfter};
 ghost use Rattle.recordings_format.specs.Edition.{newest, entrySize, trailerSize};
 ghost use Rattle.recordings_format.specs.Text.{entryText, indexText, trailerText};
 ghost use Rattle.recordings_tails.specs.Tails.{come, Indexable, tailing, lengthAfter};
-use numbers::wide32;
-use puts::put_big;
 use recordings_format::ENTRY;
 use recordings_format::LENGTH_BYTES;
 use recordings_format::MOST;
@@ -17,6 +15,8 @@ use recordings_format::NEWEST;
 use recordings_format::TRAILER;
 use sim0mq::Judged;
 use sim0mq::LIMIT;
+use sim0mq_numbers::wide32;
+use writing_puts::put_big;
 
 // Whether none of these lengths is more than a message has, and they come to `at`.
 fn come_to(lengths: &[u32], at: usize) -> bool

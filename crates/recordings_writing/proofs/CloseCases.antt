@@ -15,7 +15,7 @@ use Rattle.sim0mq.specs.declared.Judged.the-variants.{Accepted as Judged·Accep
 use Rattle.sim0mq.specs.Views.{judged}
 use Rattle.sim0mq.specs.declared.Refusal.{Refusal}
 use Rattle.sim0mq.proofs.Answers.{not-fine, fine-eq}
-use Rattle.opening.specs.Opening.{bufferAfter}
+use Rattle.writing_opening.specs.Opening.{bufferAfter}
 use Rattle.dividing.specs.Run as Run
 use Rattle.dividing.specs.Run.{runFrom}
 use Rattle.recordings_fronts.specs.Fronts.{stopOf, dividedOf}

@@ -10,7 +10,7 @@ use lib.Seq.{take-at}
 use borrow.Author.Tests.{le-leb, eq-eqb}
 use Rattle.sim0mq.specs.Answer.{Answer, fine, refused}
 use Rattle.sim0mq.specs.Allowed.{Each, none, more, joined}
-use Rattle.opening.specs.Opening.{bufferAfter}
+use Rattle.writing_opening.specs.Opening.{bufferAfter}
 use Rattle.dividing.specs.Front.{Taken}
 use Rattle.dividing.specs.Run.{atEnd, runFrom}
 use Rattle.dividing.proofs.Promises.{run-over-all}

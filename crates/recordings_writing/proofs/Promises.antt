@@ -8,7 +8,7 @@ use native.Mathlib.Omega.{arith}
 use lib.ListN.{length, take, drop, length-map}
 use lib.Seq.{take-at}
 use Rattle.sim0mq.specs.Answer.{Answer}
-use Rattle.opening.specs.Opening.{bufferAfter}
+use Rattle.writing_opening.specs.Opening.{bufferAfter}
 use Rattle.recordings_format.specs.Text.{tailText, recordingText}
 use Rattle.recordings_writing.specs.Recorder.{closing, afterAdding, afterClosing}
 use Rattle.recordings_writing.specs.Promises.{Closed-is-a-recording, Finished-is-of-the-given, Closing-wants-only-room, Refused-call-changes-nothing, Refusals-of-adding, Refusals-of-closing}

@@ -15,7 +15,7 @@ use Rattle.sim0mq.specs.Message.{noTable, message, reading}
 use Rattle.sim0mq.specs.declared.Refusal.{Refusal}
 use Rattle.sim0mq.specs.Allowed.{Each, joined}
 use Rattle.sim0mq.proofs.Answers.{guarded, bind-fine, fine-eq, and-true}
-use Rattle.opening.specs.Opening.{bufferAfter}
+use Rattle.writing_opening.specs.Opening.{bufferAfter}
 use Rattle.reading.specs.Answers.{answered}
 use Rattle.reading.proofs.SaidLaws.{said-fine, said-refused}
 use Rattle.reading.specs.declared.Answer as R

@@ -6,7 +6,7 @@ use mathlib.Core.Bool.{true}
 use mathlib.Core.List.{List, [], _∷_, _++_}
 use lib.ListN.{length, take}
 use Rattle.sim0mq.specs.Answer.{Answer, fine, refused}
-use Rattle.opening.specs.Opening.{bufferAfter}
+use Rattle.writing_opening.specs.Opening.{bufferAfter}
 use Rattle.recordings_format.specs.Edition.{Edition}
 use Rattle.recordings_writing.specs.Recorder.{empty, adding, closing, afterAdding, afterClosing}
 use Rattle.recordings_writing.specs.declared.Recorder.{Recorder}

@@ -9,7 +9,7 @@ use Rattle.sim0mq.specs.Answer.{fine, refused}
 use Rattle.sim0mq.specs.Allowed.{joined}
 use Rattle.sim0mq.specs.Demand1.{judgingNumbers}
 use Rattle.sim0mq.specs.Header.{among}
-use Rattle.opening.specs.Opening.{bufferAfter}
+use Rattle.writing_opening.specs.Opening.{bufferAfter}
 use Rattle.recordings_format.specs.Edition.{Edition, editions, Listed}
 use Rattle.recordings_format.specs.Text.{tailText, IsRecording}
 use Rattle.recordings_tails.specs.Tails.{roomFor}

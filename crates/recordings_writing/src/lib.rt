@@ -4,11 +4,10 @@ ghost use mathlib.Core.Bool.{true};
 ghost use Prim.Native.Nat.{_≤_, _<_};
 ghost use lib.ListN.{length, take};
 ghost use Rattle.sim0mq.specs.Answer.{refused as refusal};
-ghost use Rattle.opening.specs.Opening.{bufferAfter};
+ghost use Rattle.writing_opening.specs.Opening.{bufferAfter};
 ghost use Rattle.recordings_format.specs.Edition.{newest, mostMessages};
 ghost use Rattle.recordings_tails.specs.Tails.{roomFor, tailing};
 ghost use Rattle.recordings_writing.specs.Recorder.{empty, usable as usableIn, adding, closing, afterAdding, afterClosing};
-use buffers::put;
 use reading::Reading;
 use reading::judge;
 use recordings_format::MOST;
@@ -17,6 +16,7 @@ use recordings_fronts::divide;
 use recordings_tails::put_tail;
 use sim0mq::Judged;
 use sim0mq::Refusal;
+use sim0mq_buffers::put;
 
 // The recorder's state: how many bytes and messages were written, and whether it is closed.
 pub struct Recorder {

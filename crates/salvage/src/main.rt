@@ -1,8 +1,8 @@
 // Brings back a recording whose upload was cut: standard input is the file, standard output the new recording, and
 // standard error a line of what was kept, what was dropped and why it stopped there.
-use input::Input;
 use libc::STDERR_FILENO;
 use libc::STDOUT_FILENO;
+use programs_input::Input;
 use recordings_format::ENTRY;
 use recordings_format::MOST;
 use recordings_format::TRAILER;
@@ -96,7 +96,7 @@ fn bytes() -> [u8; FILE + 1] {
 // Salvages standard input; a line to standard error where it cannot be read, or has more bytes than there is room for.
 fn main() {
     let mut bytes = bytes();
-    match input::fill(&mut bytes) {
+    match programs_input::fill(&mut bytes) {
         Input::Bytes(n) => {
             if FILE < n {
                 say(b"salvage: the file has more than 3670016 bytes\n");

@@ -18,8 +18,8 @@ use Rattle.sim0mq.specs.Message.{noTable, reading}
 use Rattle.sim0mq.specs.Table.{placed}
 use Rattle.sim0mq.specs.declared.Judged.the-variants.{Accepted as Judged·Accepted}
 use Rattle.sim0mq.specs.declared.Refusal.{Refusal}
-use Rattle.header.specs.declared.Frame.{Frame}
-use Rattle.header.specs.Frames.{framed, shown}
+use Rattle.reading_header.specs.declared.Frame.{Frame}
+use Rattle.reading_header.specs.Frames.{framed, shown}
 use Rattle.reading.specs.declared.Answer.{Answer}
 use Rattle.reading.specs.declared.Found.{Found}
 use Rattle.reading.specs.declared.Reading.the-variants.{Accepted, Refused}

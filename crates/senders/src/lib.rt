@@ -6,18 +6,16 @@ ghost use Prim.Native.Nat.{_≤_};
 ghost use lib.ListN.{length};
 ghost use Rattle.sim0mq.specs.Answer.{refused as refusal};
 ghost use Rattle.sim0mq.specs.Views.{judged};
-ghost use Rattle.numbers.specs.Numbers.{Below};
-ghost use Rattle.header.specs.Frames.{shown};
+ghost use Rattle.sim0mq_numbers.specs.Numbers.{Below};
+ghost use Rattle.reading_header.specs.Frames.{shown};
 ghost use Rattle.senders_book.specs.Book.{idBytes, bookPlaces, idOf, settling, closing};
 ghost use Rattle.senders_book.specs.Taking.{stamped, stamping, takingFramed, taking};
 ghost use Rattle.senders.specs.Senders.{emptied, afterTaking, afterClosing};
-use buffers::put;
-use fields::Fielded;
-use fields::outline;
-use header::Frame;
-use numbers::number;
 use reading::Reading;
 use reading::judge;
+use reading_fields::Fielded;
+use reading_fields::outline;
+use reading_header::Frame;
 use senders_book::BOOK_PLACES;
 use senders_book::Book;
 use senders_book::ID_BYTES;
@@ -25,9 +23,11 @@ use senders_book::Id;
 use senders_book::Sender;
 use senders_lookup::free_place;
 use senders_lookup::place_of;
-use signed::i64_of;
 use sim0mq::Judged;
 use sim0mq::Refusal;
+use sim0mq_buffers::put;
+use sim0mq_numbers::number;
+use sim0mq_signed::i64_of;
 
 // What taking answers, the sender's place in the book or the refusal, and the book that it hands back.
 pub struct Taken {

@@ -34,9 +34,9 @@ use Rattle.sim0mq.specs.Payload.{payload}
 use Rattle.sim0mq.specs.Message.{limit, enough, noTable, Reading, messageRest, message, reading}
 use Rattle.sim0mq.proofs.Answers.{bind-fine, guarded, needed, needed-bind, fine-eq}
 use Rattle.sim0mq.proofs.HeaderLaws.{frame-scalar}
-use Rattle.numbers.specs.Numbers.{numberAt}
-use Rattle.numbers.proofs.NumberCases.{number-there}
-use Rattle.signed.specs.Signed.{twos}
+use Rattle.sim0mq_numbers.specs.Numbers.{numberAt}
+use Rattle.sim0mq_numbers.proofs.NumberCases.{number-there}
+use Rattle.sim0mq_signed.specs.Signed.{twos}
 use Rattle.senders_book.specs.declared.Sender.{Sender}
 use Rattle.senders_book.specs.Taking.{stamped, framePlace, takingFramed, taking}
 use Rattle.senders_book.specs.Promises.{Accepted-is-stamped, Frames-are-enough, Reading-comes-first}

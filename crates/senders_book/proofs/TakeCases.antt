@@ -11,8 +11,8 @@ use borrow.Author.Tests.{lt-ltb, le-ltb, le-leb, lt-leb}
 use Rattle.sim0mq.specs.Answer.{fine, refused, _>>_, guard}
 use Rattle.sim0mq.specs.Field.{Field, outline}
 use Rattle.sim0mq.specs.Header.{Frame}
-use Rattle.numbers.specs.Numbers.{numberAt}
-use Rattle.signed.specs.Signed.{twos}
+use Rattle.sim0mq_numbers.specs.Numbers.{numberAt}
+use Rattle.sim0mq_signed.specs.Signed.{twos}
 use Rattle.senders_book.specs.declared.Id.{Id}
 use Rattle.senders_book.specs.declared.Sender.{Sender}
 use Rattle.senders_book.specs.Book.{

@@ -36,8 +36,8 @@ use Rattle.sim0mq.specs.Header.{
 use Rattle.sim0mq.specs.Message.{limit, enough, messageRest, message, reading}
 use Rattle.sim0mq.specs.Table.{placed}
 use Rattle.sim0mq.specs.Examples.{headerOfS, sample}
-use Rattle.numbers.specs.Numbers.{numberAt}
-use Rattle.signed.specs.Signed.{twos}
+use Rattle.sim0mq_numbers.specs.Numbers.{numberAt}
+use Rattle.sim0mq_signed.specs.Signed.{twos}
 use Rattle.senders_book.specs.declared.Sender.{Sender}
 use Rattle.senders_book.specs.Book.{
   emptyBook,

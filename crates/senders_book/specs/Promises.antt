@@ -10,7 +10,7 @@ use Rattle.sim0mq.specs.Answer.{fine, refused, big}
 use Rattle.sim0mq.specs.Field.{Field}
 use Rattle.sim0mq.specs.Header.{frame, idCodes, numberCodes}
 use Rattle.sim0mq.specs.Message.{noTable, Reading, reading}
-use Rattle.signed.specs.Signed.{twos}
+use Rattle.sim0mq_signed.specs.Signed.{twos}
 use Rattle.senders_book.specs.declared.Id.{Id}
 use Rattle.senders_book.specs.declared.Sender.{Sender}
 use Rattle.senders_book.specs.Book.{

@@ -9,8 +9,8 @@ use Rattle.sim0mq.specs.Answer.{Answer, fine, refused, _>>=_, _>>_, guard}
 use Rattle.sim0mq.specs.Field.{Field, outline}
 use Rattle.sim0mq.specs.Header.{Frame}
 use Rattle.sim0mq.specs.Message.{noTable, reading}
-use Rattle.numbers.specs.Numbers.{numberAt}
-use Rattle.signed.specs.Signed.{twos}
+use Rattle.sim0mq_numbers.specs.Numbers.{numberAt}
+use Rattle.sim0mq_signed.specs.Signed.{twos}
 use Rattle.senders_book.specs.declared.Sender.{Sender}
 use Rattle.senders_book.specs.Book.{idBytes, idOf, settling}
 

@@ -12,16 +12,16 @@ use Rattle.sim0mq.specs.Codes.{countsOf, markingOf}
 use Rattle.sim0mq.specs.Field.{Field}
 use Rattle.sim0mq.proofs.Answers.{bind-fine}
 use Rattle.sim0mq.proofs.Stands.{Stands, stands-head, stands-tail, stands-left, big-number}
-use Rattle.kinds.specs.Kinds.{floatOf, doubleOf, withFloat, withDouble}
-use Rattle.kinds.specs.declared.Mark.{Mark}
-use Rattle.kinds.specs.declared.Scalar.{Scalar}
-use Rattle.kinds.specs.declared.Scalar.the-variants.{Float as Single, Double, FloatUnit, DoubleUnit, NotNumber}
+use Rattle.sim0mq_kinds.specs.Kinds.{floatOf, doubleOf, withFloat, withDouble}
+use Rattle.sim0mq_kinds.specs.declared.Mark.{Mark}
+use Rattle.sim0mq_kinds.specs.declared.Scalar.{Scalar}
+use Rattle.sim0mq_kinds.specs.declared.Scalar.the-variants.{Float as Single, Double, FloatUnit, DoubleUnit, NotNumber}
 use Rattle.asking.specs.Asking.{asked}
-use Rattle.scalars.specs.Scalars.{markOf, markAt, scalarOf, value}
-use Rattle.scalars.proofs.BackLaws.{one-mark}
-use Rattle.scalars.proofs.OneLaws.{asked-one}
-use Rattle.scalars.proofs.ReadCases.{ReadAs, asByte, asShort, asInt, asLong, asFloat, asDouble, asBoolean, asChar8, asChar16, asFloatUnit, asDoubleUnit, read-as}
-use Rattle.encoding.specs.Scalars.{markTaken}
+use Rattle.asking_scalars.specs.Scalars.{markOf, markAt, scalarOf, value}
+use Rattle.asking_scalars.proofs.BackLaws.{one-mark}
+use Rattle.asking_scalars.proofs.OneLaws.{asked-one}
+use Rattle.asking_scalars.proofs.ReadCases.{ReadAs, asByte, asShort, asInt, asLong, asFloat, asDouble, asBoolean, asChar8, asChar16, asFloatUnit, asDoubleUnit, read-as}
+use Rattle.writing_encoding.specs.Scalars.{markTaken}
 use Rattle.sums.specs.Promises.{IsTaken}
 use Rattle.sums.proofs.ReadLaws.{isDouble}
 

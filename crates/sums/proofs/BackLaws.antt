@@ -9,11 +9,11 @@ use lib.Ieee.{Float, nan, inf, fin, binary64, add, sub, fits, isNan}
 use Rattle.sim0mq.specs.Answer.{Answer, fine, refused, _>>_, guard}
 use Rattle.sim0mq.specs.Mark.{kindOf}
 use Rattle.sim0mq.proofs.Answers.{not-fine, fine-eq, guarded, and-true}
-use Rattle.kinds.specs.declared.Mark.{Mark}
-use Rattle.kinds.specs.declared.Scalar.{Scalar}
-use Rattle.kinds.specs.declared.Scalar.the-variants.{DoubleUnit}
-use Rattle.encoding.specs.Scalars.{markTaken, writable, scalarGiven}
-use Rattle.returning.proofs.ScalarLaws.{scalar-back}
+use Rattle.sim0mq_kinds.specs.declared.Mark.{Mark}
+use Rattle.sim0mq_kinds.specs.declared.Scalar.{Scalar}
+use Rattle.sim0mq_kinds.specs.declared.Scalar.the-variants.{DoubleUnit}
+use Rattle.writing_encoding.specs.Scalars.{markTaken, writable, scalarGiven}
+use Rattle.writing_returning.proofs.ScalarLaws.{scalar-back}
 use Rattle.sums_quantities.specs.Numbers.{plus, less}
 use Rattle.sums_pairs.specs.Pairs.{pairs, Quantity, relative, absolute, unitOf, quantityAt, samePair, quantitySum, quantityDifference}
 use Rattle.sums.specs.Sums.{finite, isFinite, asScalar, answerOf, answer}

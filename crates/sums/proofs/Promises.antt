@@ -8,10 +8,10 @@ use lib.Ieee.Fits.{add-fits, sub-fits}
 use Rattle.sim0mq.specs.Answer.{fine, refused, _>>=_, _>>_, guard}
 use Rattle.sim0mq.specs.Mark.{kindOf}
 use Rattle.sim0mq.proofs.Answers.{not-fine}
-use Rattle.kinds.specs.declared.Mark.{Mark}
-use Rattle.kinds.specs.declared.Scalar.the-variants.{DoubleUnit}
-use Rattle.encoding.specs.Scalars.{scalarText, markTaken, writable}
-use Rattle.returning.proofs.ScalarLaws.{scalar-back}
+use Rattle.sim0mq_kinds.specs.declared.Mark.{Mark}
+use Rattle.sim0mq_kinds.specs.declared.Scalar.the-variants.{DoubleUnit}
+use Rattle.writing_encoding.specs.Scalars.{scalarText, markTaken, writable}
+use Rattle.writing_returning.proofs.ScalarLaws.{scalar-back}
 use Rattle.sums_quantities.specs.declared.shown.Shown.{Shown}
 use Rattle.sums_pairs.specs.Pairs.{Pair, pairs, relative, absolute, quantitySum, quantityDifference}
 use Rattle.sums.specs.Sums.{measured, finite, isFinite, asScalar, answerOf, answer}

@@ -9,10 +9,10 @@ use borrow.Author.Tests.{eqb-true}
 use Rattle.sim0mq.specs.Answer.{Answer, fine, refused}
 use Rattle.sim0mq.specs.Mark.{plain, kindOf, displayTaken}
 use Rattle.sim0mq.proofs.Answers.{not-fine, fine-eq, and-true}
-use Rattle.kinds.specs.declared.Mark.{Mark}
-use Rattle.kinds.specs.declared.Scalar.{Scalar}
-use Rattle.kinds.specs.declared.Scalar.the-variants.{Byte, Short, Int, Long, Float as Single, Double, Boolean, Char8, Char16, FloatUnit, DoubleUnit, NotNumber}
-use Rattle.encoding.specs.Scalars.{markTaken}
+use Rattle.sim0mq_kinds.specs.declared.Mark.{Mark}
+use Rattle.sim0mq_kinds.specs.declared.Scalar.{Scalar}
+use Rattle.sim0mq_kinds.specs.declared.Scalar.the-variants.{Byte, Short, Int, Long, Float as Single, Double, Boolean, Char8, Char16, FloatUnit, DoubleUnit, NotNumber}
+use Rattle.writing_encoding.specs.Scalars.{markTaken}
 use Rattle.sums_quantities.specs.declared.shown.Shown.{Shown}
 use Rattle.sums_pairs.specs.Pairs.{Pair, pairs, Quantity, relative, absolute, unitOf, numberOf, quantityIn, quantityAt}
 use Rattle.sums.specs.Sums.{measured}

@@ -11,10 +11,10 @@ use Rattle.sim0mq.specs.Answer.{Answer, fine, refused, _>>_, guard}
 use Rattle.sim0mq.specs.Codes.{among}
 use Rattle.sim0mq.specs.Mark.{kindOf}
 use Rattle.sim0mq.proofs.Answers.{not-fine, fine-eq}
-use Rattle.kinds.specs.declared.Mark.{Mark}
-use Rattle.kinds.specs.declared.Scalar.{Scalar}
-use Rattle.kinds.specs.declared.Scalar.the-variants.{DoubleUnit}
-use Rattle.encoding.specs.Scalars.{markTaken}
+use Rattle.sim0mq_kinds.specs.declared.Mark.{Mark}
+use Rattle.sim0mq_kinds.specs.declared.Scalar.{Scalar}
+use Rattle.sim0mq_kinds.specs.declared.Scalar.the-variants.{DoubleUnit}
+use Rattle.writing_encoding.specs.Scalars.{markTaken}
 use Rattle.sums_quantities.specs.declared.shown.Shown.{Shown}
 use Rattle.sums_pairs.specs.Pairs.{pairs, Quantity, numberOf, quantityAt}
 use Rattle.sums.specs.Sums.{Measured, measured, finite, isFinite, asScalar, answerOf, answer}

@@ -8,9 +8,9 @@ use lib.IntN.{pos, negsuc}
 use lib.Ieee.{Float, inf, fin, span, climb, size, odd, units, round, neg, sum, add, sub}
 use Rattle.sim0mq.specs.Answer.{fine, refused}
 use Rattle.sim0mq.specs.Mark.{kindOf, displayTaken}
-use Rattle.kinds.specs.declared.Scalar.{Scalar}
-use Rattle.kinds.specs.declared.Scalar.the-variants.{DoubleUnit, NotNumber}
-use Rattle.encoding.specs.Scalars.{markTaken}
+use Rattle.sim0mq_kinds.specs.declared.Scalar.{Scalar}
+use Rattle.sim0mq_kinds.specs.declared.Scalar.the-variants.{DoubleUnit, NotNumber}
+use Rattle.writing_encoding.specs.Scalars.{markTaken}
 use Rattle.sums_pairs.specs.Pairs.{quantityIn, quantitySum, quantityDifference}
 use Rattle.sums.specs.Sums.{measured, finite, answer, sumOf, differenceOf}
 

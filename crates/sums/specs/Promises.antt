@@ -9,13 +9,13 @@ use lib.Ieee.{Float, binary64, add, sub}
 use Rattle.sim0mq.specs.Answer.{Answer, fine, refused}
 use Rattle.sim0mq.specs.Codes.{among}
 use Rattle.sim0mq.specs.Mark.{kindOf}
-use Rattle.kinds.specs.declared.Mark.{Mark}
-use Rattle.kinds.specs.declared.Scalar.{Scalar}
-use Rattle.kinds.specs.declared.Scalar.the-variants.{DoubleUnit}
-use Rattle.scalars.specs.Scalars.{value}
-use Rattle.scalars.specs.Promises.{valueAlone}
-use Rattle.encoding.specs.Scalars.{markTaken, scalarText, scalarGiven}
-use Rattle.returning.specs.Promises.{Held}
+use Rattle.sim0mq_kinds.specs.declared.Mark.{Mark}
+use Rattle.sim0mq_kinds.specs.declared.Scalar.{Scalar}
+use Rattle.sim0mq_kinds.specs.declared.Scalar.the-variants.{DoubleUnit}
+use Rattle.asking_scalars.specs.Scalars.{value}
+use Rattle.asking_scalars.specs.Promises.{valueAlone}
+use Rattle.writing_encoding.specs.Scalars.{markTaken, scalarText, scalarGiven}
+use Rattle.writing_returning.specs.Promises.{Held}
 use Rattle.sums_pairs.specs.Pairs.{Pair, pairs}
 use Rattle.sums.specs.Sums.{finite, sumOf, differenceOf}
 

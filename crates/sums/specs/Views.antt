@@ -2,8 +2,8 @@
 use Prim.Native.Nat.{ℕ}
 use mathlib.Core.Path.{_≡_}
 use Rattle.sim0mq.specs.Answer.{Answer, fine, refused, _>>=_, _>>_, guard}
-use Rattle.kinds.specs.declared.Scalar.{Scalar}
-use Rattle.kinds.specs.declared.Scalar.the-variants.{DoubleUnit}
+use Rattle.sim0mq_kinds.specs.declared.Scalar.{Scalar}
+use Rattle.sim0mq_kinds.specs.declared.Scalar.the-variants.{DoubleUnit}
 use Rattle.sums_quantities.specs.declared.shown.Shown.{Shown}
 use Rattle.sums_pairs.specs.Pairs.{Quantity, quantityAt}
 use Rattle.sums_pairs.specs.Views.{seen, combined}

@@ -2,20 +2,20 @@
 // says, and only the manual's sums and differences of two quantities are there to be taken.
 ghost use mathlib.Core.Path.{_≡_};
 ghost use Rattle.sim0mq.specs.Answer.{refused};
-ghost use Rattle.scalars.specs.Scalars.{valued};
+ghost use Rattle.asking_scalars.specs.Scalars.{valued};
 ghost use Rattle.sums_pairs.specs.Views.{seen};
 ghost use Rattle.sums.specs.Sums.{finite as finiteOf, sumOf, differenceOf};
 ghost use Rattle.sums.specs.Views.{knownAs, readOf, AreRead, shownAs, resulting};
-use encoding::mark_taken;
-use kinds::Mark;
-use kinds::Scalar;
-use scalars::answer::Value;
+use asking_scalars::answer::Value;
 use sim0mq::Refusal;
+use sim0mq_kinds::Mark;
+use sim0mq_kinds::Scalar;
 use sums_pairs::Quantity;
 use sums_pairs::add;
 use sums_pairs::quantity_of;
 use sums_pairs::subtract;
 use sums_quantities::shown::Shown;
+use writing_encoding::mark_taken;
 
 // What a scalar is read as: a quantity, or none.
 enum Known {

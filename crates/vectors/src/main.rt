@@ -1,11 +1,11 @@
 // Runs the cases of cases.txt and prints each that goes wrong, then how many there are and how many of them are wrong.
 use libc::STDERR_FILENO;
-use lines::find;
-use lines::part;
-use runs::Run;
-use runs::next;
-use texts::rewrites;
-use texts::values;
+use vectors_lines::find;
+use vectors_lines::part;
+use vectors_runs::Run;
+use vectors_runs::next;
+use vectors_texts::rewrites;
+use vectors_texts::values;
 
 // The run after its line; at the end of a case, that case is run.
 fn turn(text: &[u8], run: Run, message: &mut [u8], expected: &mut [u8]) -> Run {
@@ -15,7 +15,7 @@ fn turn(text: &[u8], run: Run, message: &mut [u8], expected: &mut [u8]) -> Run {
             return end(text, run, message, expected);
         }
     }
-    runs::turn(line, run, message, expected)
+    vectors_runs::turn(line, run, message, expected)
 }
 
 // `end`: the case is run, and its listing, or what asking, blanking or writing answers, compared. An accepted message
@@ -25,7 +25,7 @@ fn end(text: &[u8], run: Run, message: &[u8], expected: &[u8]) -> Run {
     let own = part(message, 0, run.length);
     let answered = answer(run, part(text, run.name_to, run.from), own, &mut told);
     let n = rewrites::answer(own, &mut told, answered);
-    runs::ended(text, run, part(&told, 0, n), expected)
+    vectors_runs::ended(text, run, part(&told, 0, n), expected)
 }
 
 // The length of the answer of the case that has these lines, put at the front of `out`: of what asking, blanking or
@@ -35,12 +35,12 @@ fn answer(run: Run, text: &[u8], message: &[u8], out: &mut [u8]) -> usize {
         return values::answer(message, run.field, out);
     }
     if run.blanks {
-        return copies::answer(message, run.output, out);
+        return vectors_copies::answer(message, run.output, out);
     }
     if run.writes {
-        return calls::answer(text, message, run.output, out);
+        return vectors_calls::answer(text, message, run.output, out);
     }
-    runs::listed(run, message, out)
+    vectors_runs::listed(run, message, out)
 }
 
 // The run of every line of `text`.
@@ -49,7 +49,7 @@ fn all(text: &[u8]) -> Run {
     let mut expected_room = [0u8; 16384];
     let message: &mut [u8] = &mut message_room;
     let expected: &mut [u8] = &mut expected_room;
-    let mut run = runs::start();
+    let mut run = vectors_runs::start();
     let mut at = 0;
     while at < text.len() {
         let to = find(text, at, b'\n');
@@ -81,5 +81,5 @@ fn main() {
         io::write_all(STDERR_FILENO, b"cases.txt has more bytes than fit\n");
         return;
     }
-    runs::report(all(&text[..n]));
+    vectors_runs::report(all(&text[..n]));
 }

@@ -5,9 +5,9 @@ use commands::Name;
 use commands::command;
 use libc::STDERR_FILENO;
 use libc::STDOUT_FILENO;
-use lines::find;
-use lines::part;
-use tokens::added;
+use vectors_lines::find;
+use vectors_lines::part;
+use vectors_tokens::added;
 
 // How many bytes a message of the file has at most.
 const MOST: usize = 4096;

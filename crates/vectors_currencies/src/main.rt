@@ -9,7 +9,7 @@ fn judge(c: usize)
     requires { ⌜ c < 65536 ⌝ }
 {
     let mark = [100u8, (c / 256) as u8, (c % 256) as u8];
-    match marks::mark(&mark, 0) {
+    match sim0mq_marks::mark(&mark, 0) {
         Judged::Accepted(_) => {
             io::print_decimal(STDOUT_FILENO, c as u64);
             io::write_all(STDOUT_FILENO, b"\n");

@@ -1,6 +1,5 @@
 // Runs the commands of cases.txt, one a line, over one ledger and one book of senders, and writes what each answers.
 // The head of that file says what the commands are; what must be written stands in `stdout`.
-use header::Frame;
 use ledger::Mustered;
 use ledger_decks::DECKS;
 use ledger_decks::Ledger;
@@ -8,18 +7,19 @@ use ledger_recordings::Reckoned;
 use ledger_recordings::reckon;
 use libc::STDERR_FILENO;
 use libc::STDOUT_FILENO;
-use lines::find;
-use lines::part;
-use lines::spaced;
-use lines::starts;
-use lines::wholes::Whole;
-use lines::wholes::signed;
-use pieces::put;
+use programs_pieces::put;
+use reading_header::Frame;
 use senders::Closed;
 use senders_book::Book;
 use sim0mq::Judged;
 use sim0mq::Refusal;
-use tokens::added;
+use vectors_lines::find;
+use vectors_lines::part;
+use vectors_lines::spaced;
+use vectors_lines::starts;
+use vectors_lines::wholes::Whole;
+use vectors_lines::wholes::signed;
+use vectors_tokens::added;
 
 // How many bytes a message has at most.
 const ROOM: usize = 128;
@@ -110,7 +110,7 @@ fn built(line: &[u8], from: usize, w: Whole, message: &mut [u8]) -> usize {
         0,
     );
     let status = put(b"\0\0\0\0\0\0\0\0", message, first);
-    puts::put_big(message, first, 8, bits(w));
+    writing_puts::put_big(message, first, 8, bits(w));
     if MOST < w.n {
         return message.len() + 1;
     }

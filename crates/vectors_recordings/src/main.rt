@@ -2,12 +2,6 @@
 // of that file says what the commands are; what must be written stands in `stdout`.
 use libc::STDERR_FILENO;
 use libc::STDOUT_FILENO;
-use lines::NONE;
-use lines::find;
-use lines::last;
-use lines::part;
-use lines::spaced;
-use lines::starts;
 use recordings::Asked;
 use recordings_blanking::blank_recording;
 use recordings_format::MOST;
@@ -22,6 +16,12 @@ use recordings_writing::Recorder;
 use sim0mq::Judged;
 use sim0mq::LIMIT;
 use sim0mq::Refusal;
+use vectors_lines::NONE;
+use vectors_lines::find;
+use vectors_lines::last;
+use vectors_lines::part;
+use vectors_lines::spaced;
+use vectors_lines::starts;
 
 // How many bytes the buffer has: 4,096 messages of 35 bytes, their index, the trailer, and one message more.
 const BUFFER: usize = 176173;

@@ -1,16 +1,9 @@
 // Runs the commands of cases.txt, one a line, over one book of senders, and writes what each answers. The head of that
 // file says what the commands are; what must be written stands in `stdout`.
-use header::Frame;
 use libc::STDERR_FILENO;
 use libc::STDOUT_FILENO;
-use lines::find;
-use lines::part;
-use lines::spaced;
-use lines::starts;
-use lines::wholes::Whole;
-use lines::wholes::long_of;
-use lines::wholes::signed;
-use pieces::put;
+use programs_pieces::put;
+use reading_header::Frame;
 use senders::Closed;
 use senders::Taken;
 use senders_book::BOOK_PLACES;
@@ -20,7 +13,14 @@ use senders_book::Id;
 use senders_book::Sender;
 use sim0mq::Judged;
 use sim0mq::Refusal;
-use tokens::added;
+use vectors_lines::find;
+use vectors_lines::part;
+use vectors_lines::spaced;
+use vectors_lines::starts;
+use vectors_lines::wholes::Whole;
+use vectors_lines::wholes::long_of;
+use vectors_lines::wholes::signed;
+use vectors_tokens::added;
 
 // How many bytes a message has at most.
 const ROOM: usize = 128;
@@ -44,7 +44,7 @@ fn figure(n: usize) {
 
 // Writes a signed number after a space.
 fn whole(z: i64) {
-    let u = puts::bits(z, ALL);
+    let u = writing_puts::bits(z, ALL);
     say(b" ");
     if u <= MOST as u64 {
         io::print_decimal(STDOUT_FILENO, u);
@@ -123,7 +123,7 @@ fn bits(w: Whole) -> u64 {
 fn behind(message: &mut [u8], at: usize, number: u64) -> usize {
     let first = put(b"\x01\0\x03\x01\0\x04\x03", message, at);
     let status = put(b"\0\0\0\0\0\0\0\0", message, first);
-    puts::put_big(message, first, 8, number);
+    writing_puts::put_big(message, first, 8, number);
     put(b"\0\x01\0\0", message, status)
 }
 

@@ -10,18 +10,18 @@ use borrow.Author.Tests.{le-leb, lt-leb, lt-ltb, le-ltb, eq-eqb, ne-eqb, ltb-tru
 use Rattle.sim0mq.specs.Answer.{Answer, fine, refused}
 use Rattle.sim0mq.specs.Message.{limit}
 use Rattle.sim0mq.proofs.Answers.{and-true}
-use Rattle.payload.specs.Parts.{payloadSteps}
-use Rattle.payload.proofs.PayloadCases.{alone-refused, alone-accepted}
-use Rattle.kinds.specs.declared.Scalar.{Scalar}
-use Rattle.encoding.specs.Scalars.{scalarText, writable, scalarGiven}
+use Rattle.reading_payload.specs.Parts.{payloadSteps}
+use Rattle.reading_payload.proofs.PayloadCases.{alone-refused, alone-accepted}
+use Rattle.sim0mq_kinds.specs.declared.Scalar.{Scalar}
+use Rattle.writing_encoding.specs.Scalars.{scalarText, writable, scalarGiven}
 use Rattle.sim0mq.specs.Table.{placed}
-use Rattle.opening.specs.Opening.{fitting, bufferAfter}
+use Rattle.writing_opening.specs.Opening.{fitting, bufferAfter}
 use Rattle.writing.specs.Writing.{Given, encoded, scalar, fieldGiven, takes, adding, closing, afterAdding}
-use Rattle.encoding.specs.Encoded.{encodedAs}
-use Rattle.encoding.specs.declared.Encoded.{Encoded}
+use Rattle.writing_encoding.specs.Encoded.{encodedAs}
+use Rattle.writing_encoding.specs.declared.Encoded.{Encoded}
 use Rattle.writing.specs.declared.Writer.{Writer}
 use Rattle.writing.specs.declared.Wrote.{Wrote}
-use Rattle.buffers.proofs.PlaceLaws.{front-stands}
+use Rattle.sim0mq_buffers.proofs.PlaceLaws.{front-stands}
 
 -- a state that takes a field: as many as declared were added, closed, too much written, and whether there is room
 module _ (w : Writer) (room : ℕ) where

@@ -7,7 +7,7 @@ use lib.IntN.{ℤ}
 use Rattle.sim0mq.specs.Answer.{Answer, fine, refused, lengthOf}
 use Rattle.sim0mq.specs.declared.Judged.the-variants.{Accepted, Refused}
 use Rattle.sim0mq.proofs.Answers.{not-fine, fine-eq}
-use Rattle.opening.specs.Opening.{headerGiven, bufferAfter}
+use Rattle.writing_opening.specs.Opening.{headerGiven, bufferAfter}
 use Rattle.writing.specs.declared.Wrote.{Wrote}
 use Rattle.writing.specs.Writing.{Opening, countCode, opening, afterOpening}
 

@@ -9,9 +9,9 @@ use Rattle.sim0mq.specs.Answer.{Answer, fine, refused, _>>=_, _>>_, guard}
 use Rattle.sim0mq.specs.Payload.{payload}
 use Rattle.sim0mq.specs.Message.{limit}
 use Rattle.sim0mq.specs.declared.Judged.the-variants.{Accepted, Refused}
-use Rattle.kinds.specs.declared.Scalar.{Scalar}
-use Rattle.encoding.specs.Scalars.{scalarGiven}
-use Rattle.opening.specs.Opening.{headerWith, headerGiven, fitting}
+use Rattle.sim0mq_kinds.specs.declared.Scalar.{Scalar}
+use Rattle.writing_encoding.specs.Scalars.{scalarGiven}
+use Rattle.writing_opening.specs.Opening.{headerWith, headerGiven, fitting}
 use Rattle.writing.specs.declared.CountType.{CountType}
 use Rattle.writing.specs.declared.CountType.the-variants.{Unstated, Stated}
 use Rattle.writing.specs.declared.Writer.{Writer}

@@ -3,16 +3,16 @@ ghost use mathlib.Core.Path.{_≡_};
 ghost use lib.ListN.{length};
 ghost use mathlib.Core.Bool.{true};
 ghost use Rattle.sim0mq.specs.Answer.{refused as refusal};
-ghost use Rattle.opening.specs.Opening.{fitting, bufferAfter};
+ghost use Rattle.writing_opening.specs.Opening.{fitting, bufferAfter};
 ghost use Rattle.writing.specs.Writing.{asksFor, countCode, opening, afterOpening, encoded, scalar, takes as takesField, adding, afterAdding, closing, afterClosing};
-use buffers::put;
-use encoding::encode;
-use kinds::Scalar;
-use opening::write_header;
-use payload::payload;
+use reading_payload::payload;
 use sim0mq::Judged;
 use sim0mq::LIMIT;
 use sim0mq::Refusal;
+use sim0mq_buffers::put;
+use sim0mq_kinds::Scalar;
+use writing_encoding::encode;
+use writing_opening::write_header;
 
 // The type code of the declared count: not stated, which is 2, or stated.
 pub enum CountType {

@@ -3,8 +3,8 @@ use mathlib.Core.Path.{refl, sym, ap, _∙_}
 use Rattle.sim0mq.specs.Answer.{fine}
 use Rattle.sim0mq.specs.Table.{rowSize}
 use Rattle.sim0mq.specs.Views.{judged}
-use Rattle.header.specs.declared.Answer.{Answer}
-use Rattle.front.proofs.FrontCases.{told-refused, told-accepted}
+use Rattle.reading_header.specs.declared.Answer.{Answer}
+use Rattle.reading_front.proofs.FrontCases.{told-refused, told-accepted}
 use Rattle.asking.proofs.FindCases.{ask-closed, ask-refused, ask-none, ask-found}
 use borrow.Author.Needs.{needs}
 use Rattle.asking.proofs.ask.Statement.{statement}

@@ -6,7 +6,7 @@ use denote.Ref.{ptr}
 use lib.ListN.{take, drop}
 use native.Mathlib.Omega.{arith}
 use native.Mathlib.Nat.{add-comm}
-use Rattle.fields.specs.Items.{fielded}
+use Rattle.reading_fields.specs.Items.{fielded}
 use Rattle.asking.specs.Asking.{viewOf, viewPlace}
 use Rattle.asking.proofs.PartLaws.{asked-inside}
 use Rattle.asking.proofs.view.Statement.{statement}

@@ -3,8 +3,8 @@ use mathlib.Core.Path.{sym, ap, _∙_}
 use lib.ListN.{length}
 use Rattle.sim0mq.specs.Answer.{lengthOf}
 use Rattle.sim0mq.specs.Blank.{outputAfter}
-use Rattle.header.specs.declared.Answer.{Answer}
-use Rattle.front.proofs.FrontCases.{told-refused, told-accepted}
+use Rattle.reading_header.specs.declared.Answer.{Answer}
+use Rattle.reading_front.proofs.FrontCases.{told-refused, told-accepted}
 use Rattle.blanking.proofs.BlankCases.{blank-closed, blank-copyable, blank-is}
 use borrow.Author.Needs.{needs}
 use Rattle.blanking.proofs.blank.Statement.{statement}

@@ -1,8 +1,8 @@
 -- The numbers are those of what `command` answers.
 use borrow.Author.Needs.{needs}
 use mathlib.Core.Path.{ap, _∙_}
-use Rattle.crossing.specs.Numbers.{lengthNumbers}
-use Rattle.giving.proofs.GivenLaws.{both-told}
+use Rattle.boundary_crossing.specs.Numbers.{lengthNumbers}
+use Rattle.boundary_giving.proofs.GivenLaws.{both-told}
 use Rattle.boundary_commands.proofs.sim0mq_command.Statement.{statement}
 use Rattle.boundary_commands.proofs.sim0mq_command.Tie as tie
 

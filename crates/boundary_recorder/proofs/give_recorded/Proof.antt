@@ -1,6 +1,6 @@
 -- The numbers are those of the definition, and `give` stores them.
 use borrow.Author.Needs.{needs}
-use Rattle.giving.proofs.GivenLaws.{both-all, returned-small}
+use Rattle.boundary_giving.proofs.GivenLaws.{both-all, returned-small}
 use Rattle.boundary_recorder.proofs.give_recorded.Statement.{statement}
 use Rattle.boundary_recorder.proofs.give_recorded.Tie as tie
 

@@ -2,7 +2,7 @@
 -- as it leaves it.
 use borrow.Author.Needs.{needs}
 use mathlib.Core.Path.{_∙_}
-use Rattle.giving.proofs.GivenLaws.{given-short, given-room, returned-short, answered-short, both-told}
+use Rattle.boundary_giving.proofs.GivenLaws.{given-short, given-room, returned-short, answered-short, both-told}
 use Rattle.boundary_recorder.proofs.RecorderLaws.{closed-as, closed-in}
 use Rattle.boundary_recorder.proofs.sim0mq_recording_close.Statement.{statement}
 use Rattle.boundary_recorder.proofs.sim0mq_recording_close.Tie as tie

@@ -2,7 +2,7 @@
 use borrow.Author.Needs.{needs}
 use mathlib.Core.Path.{ap}
 use Rattle.boundary_recordings.specs.Numbers.{placeNumbers}
-use Rattle.giving.proofs.GivenLaws.{both-told}
+use Rattle.boundary_giving.proofs.GivenLaws.{both-told}
 use Rattle.boundary_recordings.proofs.sim0mq_recording_ask.Statement.{statement}
 use Rattle.boundary_recordings.proofs.sim0mq_recording_ask.Tie as tie
 

@@ -1,8 +1,8 @@
 -- The numbers are those of what `open` answers.
 use borrow.Author.Needs.{needs}
 use mathlib.Core.Path.{ap}
-use Rattle.crossing.specs.Numbers.{lengthNumbers}
-use Rattle.giving.proofs.GivenLaws.{both-told}
+use Rattle.boundary_crossing.specs.Numbers.{lengthNumbers}
+use Rattle.boundary_giving.proofs.GivenLaws.{both-told}
 use Rattle.boundary_recordings.proofs.sim0mq_recording_open.Statement.{statement}
 use Rattle.boundary_recordings.proofs.sim0mq_recording_open.Tie as tie
 

@@ -2,8 +2,8 @@
 use borrow.Author.Needs.{needs}
 use native.Mathlib.Omega.{arith}
 use mathlib.Core.Path.{ap, _∙_}
-use Rattle.crossing.specs.Numbers.{lengthNumbers}
-use Rattle.giving.proofs.GivenLaws.{given-short, given-room, returned-short, answered-short, both-told}
+use Rattle.boundary_crossing.specs.Numbers.{lengthNumbers}
+use Rattle.boundary_giving.proofs.GivenLaws.{given-short, given-room, returned-short, answered-short, both-told}
 use Rattle.boundary_recordings.proofs.sim0mq_recording_open_into.Statement.{statement}
 use Rattle.boundary_recordings.proofs.sim0mq_recording_open_into.Tie as tie
 

@@ -3,7 +3,7 @@ use borrow.Author.Needs.{needs}
 use native.Mathlib.Omega.{arith}
 use mathlib.Core.Path.{ap, _∙_}
 use Rattle.boundary_recordings.specs.Numbers.{salvageNumbers}
-use Rattle.giving.proofs.GivenLaws.{given-short, given-room, returned-short, answered-short, both-told}
+use Rattle.boundary_giving.proofs.GivenLaws.{given-short, given-room, returned-short, answered-short, both-told}
 use Rattle.boundary_recordings.proofs.sim0mq_salvage.Statement.{statement}
 use Rattle.boundary_recordings.proofs.sim0mq_salvage.Tie as tie
 

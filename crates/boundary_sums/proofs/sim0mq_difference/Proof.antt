@@ -2,8 +2,8 @@
 use borrow.Author.Needs.{needs}
 use mathlib.Core.Path.{ap, _∙_}
 use Rattle.sums.specs.Sums.{differenceOf}
-use Rattle.casting.specs.Casting.{valueNumbers}
-use Rattle.giving.proofs.GivenLaws.{both-told}
+use Rattle.boundary_casting.specs.Casting.{valueNumbers}
+use Rattle.boundary_giving.proofs.GivenLaws.{both-told}
 use Rattle.boundary_sums.proofs.SumLaws.{same-answer}
 use Rattle.boundary_sums.proofs.sim0mq_difference.Statement.{statement}
 use Rattle.boundary_sums.proofs.sim0mq_difference.Tie as tie

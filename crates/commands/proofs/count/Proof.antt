@@ -1,7 +1,7 @@
 -- Each arm has the row's entry, and past the row's end there is none.
 use borrow.Author.Needs.{needs}
 use native.Mathlib.Omega.{arith}
-use Rattle.tables.proofs.TableCases.{past, none-below}
+use Rattle.sim0mq_tables.proofs.TableCases.{past, none-below}
 use Rattle.commands.specs.Tables.{countRow}
 use Rattle.commands.proofs.count.Statement.{statement}
 use Rattle.commands.proofs.count.Tie as tie

@@ -1,7 +1,7 @@
 -- Each want has its codes, and a number that is none has those of a string.
 use borrow.Author.Needs.{needs}
 use mathlib.Core.Path.{refl}
-use Rattle.tables.proofs.TableCases.{none-below}
+use Rattle.sim0mq_tables.proofs.TableCases.{none-below}
 use Rattle.commands_page.specs.Page.{any, filled, stateString, faultString, duration, time, basic}
 use Rattle.commands_page.specs.Judging.{codeTaken}
 use Rattle.commands.proofs.CommandLaws.{one-taken, any-taken, same-taken, want-past, want-at}

@@ -1,6 +1,6 @@
 -- Each arm has the row's entry, and past the row's end there is none.
 use borrow.Author.Needs.{needs}
-use Rattle.tables.proofs.TableCases.{past, none-below}
+use Rattle.sim0mq_tables.proofs.TableCases.{past, none-below}
 use Rattle.commands.specs.Tables.{wantRow}
 use Rattle.commands.proofs.wants.Statement.{statement}
 use Rattle.commands.proofs.wants.Tie as tie

@@ -1,6 +1,6 @@
 -- ledger_judging::deed_for: the first field stands after frame 7, and lies in the message.
 use mathlib.Core.Path.{ap, sym, _∙_}
-use Rattle.fields.specs.Items.{fielded}
+use Rattle.reading_fields.specs.Items.{fielded}
 use Rattle.ledger_decks.proofs.OrderCases.{first-stops, first-goes, follows-within}
 use borrow.Author.Needs.{needs}
 use Rattle.ledger_judging.proofs.deed_for.Statement.{statement}

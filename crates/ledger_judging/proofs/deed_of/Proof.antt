@@ -1,7 +1,7 @@
 -- ledger_judging::deed_of: the status chooses between new, change and delete, and only a change looks at a second
 -- field.
 use mathlib.Core.Path.{ap, sym, _∙_}
-use Rattle.fields.specs.Items.{fielded}
+use Rattle.reading_fields.specs.Items.{fielded}
 use Rattle.ledger_decks.proofs.OrderCases.{deed-new, deed-change, deed-stops, deed-delete}
 use borrow.Author.Needs.{needs}
 use Rattle.ledger_judging.proofs.deed_of.Statement.{statement}

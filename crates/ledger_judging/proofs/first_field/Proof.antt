@@ -1,7 +1,7 @@
 -- ledger_judging::first_field: frame 7 is outlined where it is said to stand, and lies in the message, so that the
 -- field after it can be outlined too.
 use mathlib.Core.Path.{ap, sym, _∙_}
-use Rattle.fields.specs.Items.{fielded}
+use Rattle.reading_fields.specs.Items.{fielded}
 use Rattle.senders_book.proofs.StampLaws.{outline-within}
 use Rattle.ledger_decks.proofs.OrderCases.{follows-goes, follows-stops}
 use borrow.Author.Needs.{needs}

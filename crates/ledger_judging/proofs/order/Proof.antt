@@ -2,7 +2,7 @@
 -- frame outlined where it is said to stand.
 use mathlib.Core.Path.{ap, sym, _∙_}
 use borrow.Author.Tests.{not-true, not-false}
-use Rattle.fields.specs.Items.{fielded}
+use Rattle.reading_fields.specs.Items.{fielded}
 use Rattle.senders_book.proofs.StampLaws.{outline-within}
 use Rattle.ledger_decks.proofs.OrderCases.{order-kind, order-other, order-status, order-many, order-goes}
 use borrow.Author.Needs.{needs}

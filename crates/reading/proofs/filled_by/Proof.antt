@@ -7,7 +7,7 @@ use lib.ListN.{length}
 use Rattle.sim0mq.specs.Table.{rowSize}
 use Rattle.sim0mq.specs.Views.{judged}
 use Rattle.sim0mq.specs.declared.Judged.{Judged}
-use Rattle.numbers.specs.Numbers.{Below}
+use Rattle.sim0mq_numbers.specs.Numbers.{Below}
 use Rattle.reading.proofs.AnswerCases.{fill-refused, fill-accepted}
 use borrow.Author.Needs.{needs}
 use Rattle.reading.proofs.filled_by.Statement.{statement}

@@ -1,8 +1,8 @@
 -- What stands before the payload and what its reader says are the answer.
 use mathlib.Core.Path.{sym, ap, _∙_}
-use Rattle.header.specs.declared.Answer.{Answer}
+use Rattle.reading_header.specs.declared.Answer.{Answer}
 use Rattle.reading.specs.Answers.{answerOf}
-use Rattle.front.proofs.FrontCases.{told-refused, told-accepted, open-within}
+use Rattle.reading_front.proofs.FrontCases.{told-refused, told-accepted, open-within}
 use Rattle.reading.proofs.AnswerCases.{closed-answer, open-answer, below-most}
 use borrow.Author.Needs.{needs}
 use Rattle.reading.proofs.judge.Statement.{statement}

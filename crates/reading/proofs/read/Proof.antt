@@ -1,9 +1,9 @@
 -- What stands before the payload and what its reader says are the answer; the rows are stored only where both accept,
 -- and are those of the message.
 use mathlib.Core.Path.{refl, sym, ap, _∙_}
-use Rattle.header.specs.declared.Answer.{Answer}
+use Rattle.reading_header.specs.declared.Answer.{Answer}
 use Rattle.reading.specs.Answers.{answerOf}
-use Rattle.front.proofs.FrontCases.{told-refused, told-accepted, open-within}
+use Rattle.reading_front.proofs.FrontCases.{told-refused, told-accepted, open-within}
 use Rattle.reading.proofs.AnswerCases.{closed-answer, closed-table, open-fillable, open-answer, open-table, below-most}
 use borrow.Author.Needs.{needs}
 use Rattle.reading.proofs.read.Statement.{statement}

@@ -5,7 +5,7 @@ use mathlib.Core.Path.{sym, ap, _∙_, subst}
 use Rattle.sim0mq.specs.Message.{limit}
 use Rattle.sim0mq.specs.Views.{judged}
 use Rattle.sim0mq.specs.declared.Judged.{Judged}
-use Rattle.numbers.specs.Numbers.{Below}
+use Rattle.sim0mq_numbers.specs.Numbers.{Below}
 use Rattle.reading.specs.Answers.{answerOf}
 use borrow.Author.Needs.{needs}
 use Rattle.reading.proofs.told_by.Statement.{statement}

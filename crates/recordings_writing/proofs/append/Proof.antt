@@ -3,7 +3,7 @@ use Prim.Native.Nat.{_+_, _≤_}
 use mathlib.Core.Path.{refl, _∙_}
 use native.Mathlib.Omega.{arith}
 use lib.ListN.{length}
-use Rattle.buffers.proofs.PlaceLaws.{put-fits}
+use Rattle.sim0mq_buffers.proofs.PlaceLaws.{put-fits}
 use Rattle.recordings_format.specs.Edition.{mostMessages}
 use Rattle.recordings_tails.proofs.TailLaws.{room-over, room-fits}
 use Rattle.recordings_writing.proofs.StateLaws.{told-added, usable-true}

@@ -5,7 +5,7 @@ use native.Mathlib.Omega.{arith}
 use mir.Syntax.{w64}
 use mir.ValLaws.{toZ-ofZ}
 use Rattle.sim0mq.specs.Views.{judged}
-use Rattle.numbers.specs.Numbers.{Below}
+use Rattle.sim0mq_numbers.specs.Numbers.{Below}
 use Rattle.senders_book.specs.Book.{bookPlaces}
 use Rattle.senders_book.specs.Taking.{stamped}
 use Rattle.senders_book.proofs.TakeCases.{stamp-long, stamp-stops, stamp-goes}

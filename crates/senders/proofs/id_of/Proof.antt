@@ -1,6 +1,6 @@
 -- senders::id_of: the bytes fit into the array, and stand at the front of its zeros.
 use Rattle.senders.proofs.CallCases.{id-made}
-use Rattle.buffers.proofs.PlaceLaws.{put-fits}
+use Rattle.sim0mq_buffers.proofs.PlaceLaws.{put-fits}
 use lib.ListN.{replicate}
 use Rattle.senders_book.specs.Book.{idBytes}
 use native.Mathlib.Omega.{arith}

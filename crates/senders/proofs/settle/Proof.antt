@@ -7,7 +7,7 @@ use native.Mathlib.Omega.{arith}
 use lib.ListN.{length, getD}
 use mir.Syntax.{w64}
 use mir.Val.{SFits}
-use Rattle.numbers.proofs.NumberCases.{below-refused}
+use Rattle.sim0mq_numbers.proofs.NumberCases.{below-refused}
 use Rattle.senders_book.specs.Book.{bookPlaces, nowhere}
 use Rattle.senders_book.proofs.TakeCases.{settle-greater, settle-behind, settle-new, settle-full}
 use Rattle.senders.proofs.CallCases.{less-as}

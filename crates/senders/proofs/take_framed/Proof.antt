@@ -6,7 +6,7 @@ use native.Mathlib.Omega.{arith}
 use lib.ListN.{take, drop}
 use mir.Syntax.{w64}
 use mir.Val.{toZ, ofZ}
-use Rattle.fields.specs.Items.{fielded}
+use Rattle.reading_fields.specs.Items.{fielded}
 use Rattle.senders_book.proofs.StampLaws.{outline-within}
 use Rattle.senders_book.proofs.TakeCases.{at-sender, at-number, at-stamp}
 use Rattle.senders.specs.Senders.{afterTaking}

@@ -1,6 +1,6 @@
 -- vectors_sums::double is safe: the bits are asked for where the double is no NaN.
 use borrow.Author.Needs.{needs}
-use Rattle.kinds.proofs.Nan.{no-nan}
+use Rattle.sim0mq_kinds.proofs.Nan.{no-nan}
 use Rattle.vectors_sums.proofs.double.Statement.{statement}
 use Rattle.vectors_sums.proofs.double.Tie as tie
 

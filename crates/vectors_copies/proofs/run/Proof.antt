@@ -1,0 +1,48 @@
+-- vectors_texts::copies::run meets its contract and ends. The invariant is what it ensures of the place it is at.
+-- Assumes nothing.
+use Prim.Native.Nat.{_-_, _≤_, max}
+use lib.ListN.{length}
+use borrow.Author.Needs.{needs}
+use Rattle.vectors_copies.proofs.run.Statement.{statement}
+use Rattle.vectors_copies.proofs.run.Tie as tie
+
+abbrev Inv-loop : tie.InvT-loop
+Inv-loop message copy from at₀ at = (from ≤ at) × (at ≤ max from (length copy))
+
+abbrev μ-loop : tie.MeasureT-loop
+μ-loop message copy from at₀ at = length copy - at
+
+loop-holds : tie.Need-loop-holds Inv-loop μ-loop
+loop-holds c = search needs
+
+cleared-requires : tie.Need-cleared-requires Inv-loop μ-loop
+cleared-requires c κs = search needs
+
+returns : tie.Need-returns Inv-loop μ-loop
+returns c = search needs
+
+add-at : tie.Need-add-at Inv-loop μ-loop
+add-at c = search needs
+
+loop-less : tie.Need-loop-less Inv-loop μ-loop
+loop-less c = search needs
+
+loop-again : tie.Need-loop-again Inv-loop μ-loop
+loop-again c = search needs
+
+returns-2 : tie.Need-returns-2 Inv-loop μ-loop
+returns-2 c = search needs
+
+pub run-spec : {M : Type 1} → statement M
+run-spec =
+    tie.close
+    (tie.spec
+    Inv-loop
+    μ-loop
+    loop-holds
+    cleared-requires
+    returns
+    add-at
+    loop-less
+    loop-again
+    returns-2)
