@@ -33,7 +33,7 @@
  *     11   unit type unknown                                           that byte
  *     12   display code outside its range                              that byte
  *     13   bytes after the last item                                   the first of them
- *     14   lent output too short                                       0
+ *     14   lent output, or a lent book, too short                      0
  *     15   call that does not fit the writer's or recorder's state     0
  *     16   no field k; in a recording, no message k                    0
  *     17   value not of the kind asked or allowed                      0
@@ -76,6 +76,7 @@ extern "C" {
 #define SIM0MQ_SALVAGE_NUMBERS 8
 #define SIM0MQ_COMMAND_NUMBERS 3
 #define SIM0MQ_RECORDER_NUMBERS 6
+#define SIM0MQ_TAKE_NUMBERS 3
 
 /* The most bytes of a message, the most fields, and the table's numbers for each field. */
 #define SIM0MQ_MOST_BYTES 65536
@@ -334,6 +335,46 @@ uint32_t sim0mq_sum(uint8_t kind, uint64_t bits, uint8_t unit, uint16_t currency
 uint32_t sim0mq_difference(uint8_t kind, uint64_t bits, uint8_t unit, uint16_t currency, uint8_t display, uint8_t kind2,
                            uint64_t bits2, uint8_t unit2, uint16_t currency2, uint8_t display2, uint64_t *answer,
                            size_t answer_len);
+
+/*
+ * The book of senders: up to 32 of them, with the last message number taken from each, so that a message which comes
+ * again is refused. It is SIM0MQ_BOOK_NUMBERS numbers that the caller keeps, and each call takes and leaves; the empty
+ * book has 0 in each. Eight for each place, one place after the other:
+ *
+ *     book[8 * i]                    1 where a sender is held there, else 0
+ *     book[8 * i + 1]                the last number taken from it, two's complement of 64 bits
+ *     book[8 * i + 2]                the type code of its id
+ *     book[8 * i + 3]                the number of value bytes of its id
+ *     book[8 * i + 4] to [8 * i + 7] these bytes, eight in each number, the first weighing most, with 0 after the last
+ *
+ * Any numbers are a book: in the first any number but 0 is a sender held, and one that is said to have more than 32
+ * bytes is nobody. Of a longer slice the first SIM0MQ_BOOK_NUMBERS are the book, and the others stay; a shorter one is
+ * refused by 14 before all else. Granted, the book is written anew, its places that are as they were too; refused, no
+ * number of it changes.
+ */
+#define SIM0MQ_BOOK_NUMBERS 256
+
+/*
+ * Takes a message into the book, where its number, signed, is greater than the one held of its sender, or the sender is
+ * new and a place is free.
+ *
+ *     answer[2]    the sender's place in the book, 0 to 31
+ *
+ * Refusals: 14; 1 to 13 and 19, as in judging; then 26; 27; 28.
+ */
+uint32_t sim0mq_take(uint64_t *book, size_t book_len, const uint8_t *message, size_t message_len, uint64_t *answer,
+                     size_t answer_len);
+
+/*
+ * Closes the sender of this type code and these value bytes, as frame 2 of a message has them: its place is free, and
+ * its numbers start afresh.
+ *
+ *     answer[2]    1 where it was held; 0 where it was not, and then no number of the book changes
+ *
+ * Refusals: 14.
+ */
+uint32_t sim0mq_close_sender(uint64_t *book, size_t book_len, uint64_t code, const uint8_t *id, size_t id_len,
+                             uint64_t *answer, size_t answer_len);
 
 #ifdef __cplusplus
 }

@@ -164,7 +164,8 @@ pub extern "C" fn sim0mq_salvage(file: &[u8], out: &mut [u8], answer: &mut [u64]
     ensures written { λ _. ⌜
         now (out .exit)
         ≡ given 8 (now (answer .entry))
-        (outputAfter newest (now (file .entry)) (now (out .entry)) (salvageOf newest (length (now (out .entry))) (now (file .entry))))
+        (outputAfter newest (now (file .entry)) (now (out .entry))
+        (salvageOf newest (length (now (out .entry))) (now (file .entry))))
         (now (out .entry))
         ⌝ }
     ensures answered { λ _. ⌜

@@ -40,12 +40,14 @@ pub extern "C" fn sim0mq_sum(
 ) -> u32
     ensures returned { λ r. ⌜
         r ≡ returned 7 (now (answer .entry))
-        (valueNumbers (sumOf (scalarFrom kind bits (markFrom unit currency display)) (scalarFrom kind2 bits2 (markFrom unit2 currency2 display2))))
+        (valueNumbers (sumOf (scalarFrom kind bits (markFrom unit currency display))
+        (scalarFrom kind2 bits2 (markFrom unit2 currency2 display2))))
         ⌝ }
     ensures answered { λ _. ⌜
         now (answer .exit)
         ≡ answerAfter 7 (now (answer .entry))
-        (valueNumbers (sumOf (scalarFrom kind bits (markFrom unit currency display)) (scalarFrom kind2 bits2 (markFrom unit2 currency2 display2))))
+        (valueNumbers (sumOf (scalarFrom kind bits (markFrom unit currency display))
+        (scalarFrom kind2 bits2 (markFrom unit2 currency2 display2))))
         ⌝ }
 {
     let a = operand(kind, bits, unit, currency, display);
@@ -70,12 +72,14 @@ pub extern "C" fn sim0mq_difference(
 ) -> u32
     ensures returned { λ r. ⌜
         r ≡ returned 7 (now (answer .entry))
-        (valueNumbers (differenceOf (scalarFrom kind bits (markFrom unit currency display)) (scalarFrom kind2 bits2 (markFrom unit2 currency2 display2))))
+        (valueNumbers (differenceOf (scalarFrom kind bits (markFrom unit currency display))
+        (scalarFrom kind2 bits2 (markFrom unit2 currency2 display2))))
         ⌝ }
     ensures answered { λ _. ⌜
         now (answer .exit)
         ≡ answerAfter 7 (now (answer .entry))
-        (valueNumbers (differenceOf (scalarFrom kind bits (markFrom unit currency display)) (scalarFrom kind2 bits2 (markFrom unit2 currency2 display2))))
+        (valueNumbers (differenceOf (scalarFrom kind bits (markFrom unit currency display))
+        (scalarFrom kind2 bits2 (markFrom unit2 currency2 display2))))
         ⌝ }
 {
     let a = operand(kind, bits, unit, currency, display);

@@ -191,6 +191,10 @@ use Rattle.boundary_recorder.proofs.sim0mq_recording_add.Reads as c-recording-a
 use Rattle.boundary_recorder.proofs.sim0mq_recording_close.Reads as c-recording-close
 use Rattle.boundary_sums.proofs.sim0mq_sum.Reads as c-sum
 use Rattle.boundary_sums.proofs.sim0mq_difference.Reads as c-difference
+use Rattle.boundary_books.proofs.book_of.Reads as book-of
+use Rattle.boundary_books.proofs.put_book.Reads as put-book
+use Rattle.boundary_senders.proofs.sim0mq_take.Reads as c-take
+use Rattle.boundary_senders.proofs.sim0mq_close_sender.Reads as c-close-sender
 use Rattle.programs_pieces.proofs.put.Reads as put
 use Rattle.programs_pieces.proofs.number.Reads as decimal
 use Rattle.programs_listing.proofs.listing.Reads as listing
@@ -971,6 +975,32 @@ c-difference-result = equated _ (λ κs a z e p. p .0)
 
 pub c-difference-answer : Determines c-difference.Post (λ κs z e. now (e .1 .1 .1 .1 .1 .1 .1 .1 .1 .1 .0))
 c-difference-answer = equated _ (λ κs a z e p. p .1)
+
+-- The calls of crate boundary_books.
+pub book-of-result : Determines book-of.Post (λ κs z e. z)
+book-of-result = equated _ (λ κs a z e p. p)
+
+pub put-book-numbers : Determines put-book.Post (λ κs z e. now (e .1 .0))
+put-book-numbers = equated _ (λ κs a z e p. p)
+
+-- The calls of crate boundary_senders.
+pub c-take-result : Determines c-take.Post (λ κs z e. z)
+c-take-result = equated _ (λ κs a z e p. p .0)
+
+pub c-take-book : Determines c-take.Post (λ κs z e. now (e .0))
+c-take-book = equated _ (λ κs a z e p. p .1 .0)
+
+pub c-take-answer : Determines c-take.Post (λ κs z e. now (e .1 .1 .0))
+c-take-answer = equated _ (λ κs a z e p. p .1 .1)
+
+pub c-close-sender-result : Determines c-close-sender.Post (λ κs z e. z)
+c-close-sender-result = equated _ (λ κs a z e p. p .0)
+
+pub c-close-sender-book : Determines c-close-sender.Post (λ κs z e. now (e .0))
+c-close-sender-book = equated _ (λ κs a z e p. p .1 .0)
+
+pub c-close-sender-answer : Determines c-close-sender.Post (λ κs z e. now (e .1 .1 .1 .0))
+c-close-sender-answer = equated _ (λ κs a z e p. p .1 .1)
 
 -- The calls of crate pieces.
 pub put-result : Determines put.Post (λ κs z e. z)
