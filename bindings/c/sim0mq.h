@@ -33,7 +33,7 @@
  *     11   unit type unknown                                           that byte
  *     12   display code outside its range                              that byte
  *     13   bytes after the last item                                   the first of them
- *     14   lent output, or a lent book, too short                      0
+ *     14   lent output, or a lent book or ledger, too short            0
  *     15   call that does not fit the writer's or recorder's state     0
  *     16   no field k; in a recording, no message k                    0
  *     17   value not of the kind asked or allowed                      0
@@ -77,6 +77,8 @@ extern "C" {
 #define SIM0MQ_COMMAND_NUMBERS 3
 #define SIM0MQ_RECORDER_NUMBERS 6
 #define SIM0MQ_TAKE_NUMBERS 3
+#define SIM0MQ_MUSTER_NUMBERS 3
+#define SIM0MQ_RECKON_NUMBERS 20
 
 /* The most bytes of a message, the most fields, and the table's numbers for each field. */
 #define SIM0MQ_MOST_BYTES 65536
@@ -375,6 +377,37 @@ uint32_t sim0mq_take(uint64_t *book, size_t book_len, const uint8_t *message, si
  */
 uint32_t sim0mq_close_sender(uint64_t *book, size_t book_len, uint64_t code, const uint8_t *id, size_t id_len,
                              uint64_t *answer, size_t answer_len);
+
+/*
+ * The deck ledger: how many heads are on each of 16 decks, numbered from 0. It is SIM0MQ_DECKS numbers of 16 bits that
+ * the caller keeps, and each call takes and leaves; the empty ledger has 0 in each, and any numbers are a ledger. Of a
+ * longer slice the first SIM0MQ_DECKS are the ledger, and the others stay.
+ */
+#define SIM0MQ_DECKS 16
+
+/*
+ * Musters a message of the type MUS.1: it is judged by the ledger, taken by the book of senders (see there), and
+ * applied. A new has one head join a deck, a change has one join a deck and leave another, a delete has one leave.
+ *
+ *     answer[2]    the sender's place in the book, 0 to 31
+ *
+ * Refusals: 14 where `decks` or `book` is too short; 1 to 13 and 19, as in judging; 20; 21; 22; 29; 30; 31; then the
+ * book's, 26; 27; 28. Refused, no number of ledger and book changes.
+ */
+uint32_t sim0mq_muster(uint16_t *decks, size_t decks_len, uint64_t *book, size_t book_len, const uint8_t *message,
+                       size_t message_len, uint64_t *answer, size_t answer_len);
+
+/*
+ * How many heads are on each deck after a recording: its messages are mustered in order, from the empty ledger and the
+ * empty book, and one that is refused is passed over.
+ *
+ *     answer[2]        the number of messages applied
+ *     answer[3]        the number of messages passed over
+ *     answer[4 + d]    the heads on deck d, 0 to 15
+ *
+ * Refusals: those of opening the recording.
+ */
+uint32_t sim0mq_reckon(const uint8_t *recording, size_t recording_len, uint64_t *answer, size_t answer_len);
 
 #ifdef __cplusplus
 }

@@ -32,30 +32,30 @@ numbers-made e z b w₁ w₂ w₃ w₄ s h e₁ e₂ e₃ e₄ =
 
 -- A row that is put number by number: those so far stand there.
 pub record Rowing (row old new : List ℕ) (at k : ℕ) : Type 0 where
-  pub few : k ≤ 8
+  pub few : k ≤ length row
   pub long : length new ≡ length old
   pub same : new ≡ placed old at (take k row)
 
 pub rowing-start : (row old : List ℕ) (at : ℕ) → Rowing row old old at 0
 rowing-start row old at = record { few = omega arith; long = refl; same = placed-nothing old at }
 
-module _ {row old new : List ℕ} {at k : ℕ} (r : Rowing row old new at k) (eight : length row ≡ 8) (room : at + 8 ≤ length old) where
-  pub rowing-turn : k < 8 → Rowing row old (set new (at + k) (getD row k 0)) at (k + 1)
-  rowing-turn h =
+module _ {row old new : List ℕ} {at k : ℕ} (r : Rowing row old new at k) (room : at + length row ≤ length old) where
+  pub rowing-turn : (p : ℕ) → p ≡ at + k → k < length row → Rowing row old (set new p (getD row k 0)) at (k + 1)
+  rowing-turn p e h =
       let x : ℕ = getD row k 0 in
       let so : length (take k row) ≡ k = length-take-le k row (omega arith) in
       record {
         few = omega arith;
-        long = length-set new (at + k) x ∙ r .long;
+        long = length-set new p x ∙ r .long;
         same =
-            placed-byte new (at + k) x (omega (arith, r .long))
-            ∙ ap (λ (l : List ℕ). placed l (at + k) (x ∷ [])) (r .same)
-            ∙ placed-on old at (take k row) (x ∷ []) (at + k) (omega arith) (omega arith)
+            placed-byte new p x (omega (arith, r .long))
+            ∙ ap (λ (l : List ℕ). placed l p (x ∷ [])) (r .same)
+            ∙ placed-on old at (take k row) (x ∷ []) p (omega arith) (omega arith)
             ∙ ap (placed old at) (sym (take-suc row k 0 (omega arith)))
             ∙ ap (λ (j : ℕ). placed old at (take j row)) (sym (add-one k));
       }
 
-  pub rowing-end : 8 ≤ k → new ≡ placed old at row
+  pub rowing-end : length row ≤ k → new ≡ placed old at row
   rowing-end h = r .same ∙ ap (placed old at) (take-all k row (omega arith))
 
 -- Eight numbers for each place.

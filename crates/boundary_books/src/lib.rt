@@ -6,15 +6,15 @@ ghost use Rattle.sim0mq.specs.Table.{placed};
 ghost use Rattle.sim0mq_buffers.specs.Placing.{putIn};
 ghost use Rattle.sim0mq_numbers.specs.Numbers.{numberAt};
 ghost use Rattle.boundary_books.specs.Books.{senderNumbers, idBytesOf, senderAt, bookOf, bookNumbers};
-use sim0mq_numbers::number;
-use writing_puts::bits;
-use writing_puts::put_big;
 use senders_book::BOOK_PLACES;
 use senders_book::Book;
 use senders_book::ID_BYTES;
 use senders_book::Id;
 use senders_book::Sender;
+use sim0mq_numbers::number;
 use sim0mq_signed::i64_of;
+use writing_puts::bits;
+use writing_puts::put_big;
 
 // How many numbers a place of the book has, and how many the book.
 const PLACE: usize = 8;

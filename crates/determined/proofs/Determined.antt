@@ -195,6 +195,8 @@ use Rattle.boundary_books.proofs.book_of.Reads as book-of
 use Rattle.boundary_books.proofs.put_book.Reads as put-book
 use Rattle.boundary_senders.proofs.sim0mq_take.Reads as c-take
 use Rattle.boundary_senders.proofs.sim0mq_close_sender.Reads as c-close-sender
+use Rattle.boundary_ledger.proofs.sim0mq_muster.Reads as c-muster
+use Rattle.boundary_ledger.proofs.sim0mq_reckon.Reads as c-reckon
 use Rattle.programs_pieces.proofs.put.Reads as put
 use Rattle.programs_pieces.proofs.number.Reads as decimal
 use Rattle.programs_listing.proofs.listing.Reads as listing
@@ -1001,6 +1003,25 @@ c-close-sender-book = equated _ (λ κs a z e p. p .1 .0)
 
 pub c-close-sender-answer : Determines c-close-sender.Post (λ κs z e. now (e .1 .1 .1 .0))
 c-close-sender-answer = equated _ (λ κs a z e p. p .1 .1)
+
+-- The calls of crate boundary_ledger.
+pub c-muster-result : Determines c-muster.Post (λ κs z e. z)
+c-muster-result = equated _ (λ κs a z e p. p .0)
+
+pub c-muster-decks : Determines c-muster.Post (λ κs z e. now (e .0))
+c-muster-decks = equated _ (λ κs a z e p. p .1 .0)
+
+pub c-muster-book : Determines c-muster.Post (λ κs z e. now (e .1 .0))
+c-muster-book = equated _ (λ κs a z e p. p .1 .1 .0)
+
+pub c-muster-answer : Determines c-muster.Post (λ κs z e. now (e .1 .1 .1 .0))
+c-muster-answer = equated _ (λ κs a z e p. p .1 .1 .1)
+
+pub c-reckon-result : Determines c-reckon.Post (λ κs z e. z)
+c-reckon-result = equated _ (λ κs a z e p. p .0)
+
+pub c-reckon-answer : Determines c-reckon.Post (λ κs z e. now (e .1 .0))
+c-reckon-answer = equated _ (λ κs a z e p. p .1)
 
 -- The calls of crate pieces.
 pub put-result : Determines put.Post (λ κs z e. z)

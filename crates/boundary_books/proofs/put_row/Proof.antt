@@ -1,6 +1,9 @@
 -- The numbers put so far stand in the row's place.
 use borrow.Author.Needs.{needs}
+use native.Mathlib.Omega.{arith}
 use Prim.Native.Nat.{_-_}
+use mathlib.Core.Path.{_≡_, refl}
+use lib.ListN.{length}
 use Rattle.boundary_books.proofs.PutLaws.{Rowing, rowing-start, rowing-turn, rowing-end}
 use Rattle.boundary_books.proofs.put_row.Statement.{statement}
 use Rattle.boundary_books.proofs.put_row.Tie as tie
@@ -36,13 +39,17 @@ loop-less : tie.Need-loop-less Inv-loop μ-loop
 loop-less c = search needs
 
 loop-again : tie.Need-loop-again Inv-loop μ-loop
-loop-again c = rowing-turn (c .before .loop .inv) (search needs) (c .before .before .pre .0) (c .loop-test .taken)
+loop-again c =
+    let eight : length (c .before .before .args .t1) ≡ 8 = search needs in
+    rowing-turn (c .before .loop .inv) (omega (arith, c .before .before .pre .0)) _ refl (omega (arith, c .loop-test .taken))
 
 same-length : tie.Need-same-length Inv-loop μ-loop
 same-length c = search needs
 
 returns : tie.Need-returns Inv-loop μ-loop
-returns c = rowing-end (c .before .loop .inv) (search needs) (c .before .before .pre .0) (c .loop-test .left)
+returns c =
+    let eight : length (c .before .before .args .t1) ≡ 8 = search needs in
+    rowing-end (c .before .loop .inv) (omega (arith, c .before .before .pre .0)) (omega (arith, c .loop-test .left))
 
 pub put-row-spec : {M : Type 1} → statement M
 put-row-spec = tie.close (tie.spec Inv-loop μ-loop loop-holds mul-numbers array-read-numbers add-numbers mul-numbers-2 slice-write-numbers add-k loop-less loop-again same-length returns)
