@@ -119,7 +119,9 @@ returns : tie.Need-returns
 returns c = (reckoned-refused _ _ _ _ (c .before .before .said .given .1), search needs)
 
 returns-2 : tie.Need-returns-2
-returns-2 c = (reckoned-accepted _ _ _ _ (search needs) (c .before .said2 .given .1), search needs)
+returns-2 c =
+    let a = c .before .before .before .args in
+    (reckoned-accepted (a .said) (a .passed) (a .t3) _ (search needs) (c .before .said2 .given .1), search needs)
 
 pub reckoned-numbers-spec : {M : Type 1} → statement M
 reckoned-numbers-spec = tie.close (tie.spec enum-known-said cast-numbers array-write-numbers array-write-numbers-2 enum-known-said-2 array-read-t18 cast-t19 array-read-t22 cast-t23 array-read-t26 cast-t27 array-read-t30 cast-t31 array-read-t34 cast-t35 array-read-t38 cast-t39 array-read-t42 cast-t43 array-read-t46 cast-t47 array-read-t50 cast-t51 array-read-t54 cast-t55 array-read-t58 cast-t59 array-read-t62 cast-t63 array-read-t66 cast-t67 array-read-t70 cast-t71 array-read-t74 cast-t75 array-read-t78 cast-t79 returns returns-2)
