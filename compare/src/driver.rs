@@ -5,7 +5,7 @@ mod parts;
 mod session;
 
 pub use pair::{Answer, Buffers, Difference};
-pub use reading_parts::PartsDriver;
+pub use parts::PartsDriver;
 
 use crate::generate::{self, Message};
 use crate::random::Random;

@@ -19,8 +19,8 @@ mod writer;
 #[cfg(test)]
 mod tests;
 
-use reading_header::Header;
-use reading_payload::Field;
+use header::Header;
+use payload::Field;
 pub use refusal::{Refusal, MEANINGS};
 pub use scalar::Value;
 pub use writer::{add, add_scalar, close, open, State};
@@ -95,7 +95,7 @@ fn begin(message: &[u8]) -> Result<Header, Refusal> {
     if message.len() > MOST_BYTES {
         return Err(Refusal::new(8, 0));
     }
-    reading_header::read(message)
+    header::read(message)
 }
 
 /// Judges the fields, shows each with its number to `each`, and answers the
@@ -109,7 +109,7 @@ fn walk(
     let mut place = header.end;
     let mut marks = 0;
     for number in 0..header.fields {
-        let field = reading_payload::judge(message, place)?;
+        let field = payload::judge(message, place)?;
         each(number, &field);
         marks += field.marks;
         place = field.end();
@@ -122,7 +122,7 @@ fn walk(
 /// Where there is none, the refusal of reading the bytes, cut at the limit.
 fn front(bytes: &[u8]) -> Result<usize, Refusal> {
     let bytes = &bytes[..bytes.len().min(MOST_BYTES)];
-    let header = reading_header::read(bytes)?;
+    let header = header::read(bytes)?;
     walk(bytes, &header, |_, _| ()).map(|(end, _)| end)
 }
 
@@ -136,7 +136,7 @@ fn accepted(message: &[u8]) -> Result<Header, Refusal> {
 fn fields<'a>(message: &'a [u8], header: &Header) -> impl Iterator<Item = Field> + 'a {
     let mut place = header.end;
     (0..header.fields).map_while(move |_| {
-        let field = reading_payload::judge(message, place).ok()?;
+        let field = payload::judge(message, place).ok()?;
         place = field.end();
         Some(field)
     })
@@ -188,8 +188,8 @@ fn fill<const N: usize>(
             place as u32,
             first,
             end - first,
-            reading_payload::marks(message, place),
-            reading_payload::values(message, place),
+            payload::marks(message, place),
+            payload::values(message, place),
         ]);
         place = end as usize;
     }
@@ -206,8 +206,8 @@ fn copy<const N: usize>(message: &[u8], header: &Header, out: &mut [u8]) -> Resu
     let mut copied = header.end;
     for &[first, end] in &spans[..header.fields] {
         let (first, end) = (first as usize, end as usize);
-        reading_payload::copy_head(&message[copied..first], &mut out[copied..first]);
-        reading_payload::clear(&mut out[first..end]);
+        payload::copy_head(&message[copied..first], &mut out[copied..first]);
+        payload::clear(&mut out[first..end]);
         copied = end;
     }
     Ok(message.len() as u64)

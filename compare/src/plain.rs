@@ -6,7 +6,7 @@
 mod parts;
 mod sums;
 
-pub use reading_parts::COMMANDS;
+pub use parts::COMMANDS;
 
 use crate::peer::{Reading, Refusal, State, Value};
 use crate::subject::{

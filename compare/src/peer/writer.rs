@@ -146,7 +146,7 @@ fn fits(state: State, out: &[u8]) -> Result<(), Refusal> {
 
 /// Judges one encoded field as a payload by itself.
 fn judge_alone(field: &[u8]) -> Result<(), Refusal> {
-    let end = reading_payload::judge(field, 0)?.end();
+    let end = payload::judge(field, 0)?.end();
     if end < field.len() {
         return Err(Refusal::new(13, end));
     }

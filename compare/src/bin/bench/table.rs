@@ -52,7 +52,7 @@ fn line<W: Work>(sample: &Sample, work: W) -> String {
         shown(rounds.ratio(Who::Library, Who::Rust)),
         shown(rounds.ratio(Who::Library, Who::C)),
     ];
-    format!("| {} | {} |", cells.join(" | "), vectors_copies::<W>(&rounds).join(" | "))
+    format!("| {} | {} |", cells.join(" | "), copies::<W>(&rounds).join(" | "))
 }
 
 /// The times over that of `memcpy`, where it was timed.
