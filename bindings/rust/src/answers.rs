@@ -1,7 +1,10 @@
 //! The answers of the library's calls, each as its numbers or as the refusal that they tell.
 
-use crate::raw::{self, Opening, Scalar, State};
+use crate::raw::{self, Opening, RecorderState, Scalar, State};
 use crate::raw::{BLANK_NUMBERS, READ_NUMBERS, VALUE_NUMBERS, VIEW_NUMBERS, WRITER_NUMBERS};
+use crate::raw::{
+    COMMAND_NUMBERS, RECORDER_NUMBERS, RECORDING_ASK_NUMBERS, RECORDING_NUMBERS, SALVAGE_NUMBERS,
+};
 use crate::refusal::Refusal;
 
 /// The numbers that a call answers, where it is granted; else the refusal.
@@ -64,4 +67,60 @@ pub(crate) fn add_scalar(taken: State, scalar: Scalar, out: &mut [u8]) -> Result
 pub(crate) fn close(taken: State) -> Result<usize, Refusal> {
     let answer: [u64; WRITER_NUMBERS] = answered(|answer| raw::close(taken, answer))?;
     Ok(answer[2] as usize)
+}
+
+/// Opening a recording: the number of its messages, and the table's front filled; or the refusal.
+pub(crate) fn recording_open_into(recording: &[u8], table: &mut [u32]) -> Result<usize, Refusal> {
+    let answer: [u64; RECORDING_NUMBERS] =
+        answered(|answer| raw::recording_open_into(recording, table, answer))?;
+    Ok(answer[2] as usize)
+}
+
+/// Message k of a recording: the place of its first byte and its length, or the refusal.
+pub(crate) fn recording_ask(recording: &[u8], k: u64) -> Result<(usize, usize), Refusal> {
+    let answer: [u64; RECORDING_ASK_NUMBERS] =
+        answered(|answer| raw::recording_ask(recording, k, answer))?;
+    Ok((answer[2] as usize, answer[3] as usize))
+}
+
+/// The state that a granted call of the recorder hands back.
+fn recorder_state(answer: [u64; RECORDER_NUMBERS]) -> RecorderState {
+    RecorderState { written: answer[3], messages: answer[4], closed: answer[5] as u8 }
+}
+
+/// Adding a message to a recording: the state with the message written to `out`, or the refusal.
+pub(crate) fn recording_add(
+    taken: RecorderState,
+    message: &[u8],
+    out: &mut [u8],
+) -> Result<RecorderState, Refusal> {
+    answered(|answer| raw::recording_add(taken, message, out, answer)).map(recorder_state)
+}
+
+/// Closing a recording: the length of the recording, or the refusal.
+pub(crate) fn recording_close(taken: RecorderState, out: &mut [u8]) -> Result<usize, Refusal> {
+    let answer: [u64; RECORDER_NUMBERS] =
+        answered(|answer| raw::recording_close(taken, out, answer))?;
+    Ok(answer[2] as usize)
+}
+
+/// Salvage: the numbers of the answer, and the recording at the front of `out`; or the refusal.
+pub(crate) fn salvage(file: &[u8], out: &mut [u8]) -> Result<[u64; SALVAGE_NUMBERS], Refusal> {
+    answered(|answer| raw::salvage(file, out, answer))
+}
+
+/// Which command a message is: its number in the manual's order, from 0, or the refusal.
+pub(crate) fn command(message: &[u8]) -> Result<usize, Refusal> {
+    let answer: [u64; COMMAND_NUMBERS] = answered(|answer| raw::command(message, answer))?;
+    Ok(answer[2] as usize)
+}
+
+/// The sum of two scalars: the numbers of the answer, or the refusal.
+pub(crate) fn sum(a: Scalar, b: Scalar) -> Result<[u64; VALUE_NUMBERS], Refusal> {
+    answered(|answer| raw::sum(a, b, answer))
+}
+
+/// The difference of two scalars: the numbers of the answer, or the refusal.
+pub(crate) fn difference(a: Scalar, b: Scalar) -> Result<[u64; VALUE_NUMBERS], Refusal> {
+    answered(|answer| raw::difference(a, b, answer))
 }

@@ -1,4 +1,5 @@
-//! Sim0MQ typed messages (big-endian, manual version 1.5): reading, asking, blanking and writing.
+//! Sim0MQ typed messages (big-endian, manual version 1.5): reading, asking, blanking and writing
+//! them, and what is done with them.
 //!
 //! This crate is a thin cover over the library in `libsim0mq.a`, whose calls are proved to end, to
 //! be safe and to answer as they say, on every input. Nothing of the format is decided here: the
@@ -12,6 +13,11 @@
 //! | [`value()`], [`view`] | the [`Value`] of field k where it is a scalar; its value bytes |
 //! | [`blank`], [`blanked`] | the copy of the message with zero in every value byte |
 //! | [`Writer`] | a message, opened with a [`Header`], filled field by field, and closed |
+//! | [`Recording`], [`message_of`] | the messages of a recording; one of them alone |
+//! | [`Recorder`] | a recording, written message by message |
+//! | [`salvage()`] | a [`Salvaged`]: the recording of the messages at the front of a cut file |
+//! | [`command()`] | which [`Command`] of the manual's chapter 4 a message is |
+//! | [`sum`], [`difference`] | of two quantities, the [`Value`] with its unit |
 //!
 //! Each is refused by a [`Refusal`], a number and a place, and what was lent is then as it was.
 //!
@@ -53,21 +59,31 @@
 mod answers;
 mod asking;
 mod blanking;
+mod command;
 mod field;
 mod frames;
 mod message;
 #[allow(unsafe_code)]
 pub mod raw;
+mod recorder;
+mod recording;
 mod refusal;
+mod salvage;
+mod sums;
 mod value;
 mod writer;
 
 pub use asking::{value, view};
 pub use blanking::{blank, blanked};
+pub use command::{command, Command};
 pub use field::{Field, Fields};
 pub use frames::{judge, Frame, Id, Summary};
 pub use message::{read, Message};
+pub use recorder::Recorder;
+pub use recording::{message_of, Messages, Recording};
 pub use refusal::{Refusal, RefusalKind};
+pub use salvage::{salvage, Salvaged, Stop};
+pub use sums::{difference, sum};
 pub use value::{Mark, Value};
 pub use writer::{Header, Unfinished, Writer};
 
@@ -76,3 +92,6 @@ pub const MOST_BYTES: usize = 65_536;
 
 /// The most fields that a message has.
 pub const MOST_FIELDS: usize = 256;
+
+/// The most messages that a recording has.
+pub const MOST_MESSAGES: usize = 4_096;

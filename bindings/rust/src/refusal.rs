@@ -23,7 +23,8 @@ pub enum RefusalKind {
     /// 7: more than 256 fields are declared, or more than the count's type can say. The place is
     /// the first byte of the count, and 0 in the writer.
     TooManyFields = 7,
-    /// 8: the message has more than 65,536 bytes. The place is 0.
+    /// 8: the message has more than 65,536 bytes, or than 32,768 in a recording of edition 1. The
+    /// place is 0, and in a recording where the message begins.
     TooLong = 8,
     /// 9: no field has this code. The place is that byte.
     FieldCode = 9,
@@ -37,7 +38,8 @@ pub enum RefusalKind {
     BytesLeft = 13,
     /// 14: the lent output has not the room. The place is 0.
     NoRoom = 14,
-    /// 15: the writer is not in a state for this call. The place is 0.
+    /// 15: the writer or the recorder is not in a state for this call, as a recorder for a 4,097th
+    /// message. The place is 0.
     WriterState = 15,
     /// 16: the message has no field of this number, or the recording no message. The place is 0.
     NoField = 16,
@@ -145,8 +147,8 @@ impl RefusalKind {
             RefusalKind::DisplayCode => "display code out of range",
             RefusalKind::BytesLeft => "bytes left after the last item",
             RefusalKind::NoRoom => "output too short",
-            RefusalKind::WriterState => "call out of turn in the writer",
-            RefusalKind::NoField => "no such field",
+            RefusalKind::WriterState => "call out of turn in the writer or the recorder",
+            RefusalKind::NoField => "no such field or message",
             RefusalKind::WrongKind => "not a scalar that can be asked or written",
             RefusalKind::Tail => "trailer or index of a recording wrong",
             RefusalKind::CurrencyCode => "unknown currency code",
@@ -212,8 +214,8 @@ impl Refusal {
         self.kind
     }
 
-    /// Where the fault is, counted in bytes from 0: in the message that was judged, or, with the
-    /// writer, in the ids or the encoded field it was handed.
+    /// Where the fault is, counted in bytes from 0: in the message, the recording or the file that
+    /// was judged, or, with the writer, in the ids or the encoded field it was handed.
     #[must_use]
     pub const fn place(self) -> usize {
         self.place

@@ -180,7 +180,10 @@ fn the_longest_message_is_read_and_a_longer_one_refused() {
     let count = (text.len() as u32).to_be_bytes();
     let mut bytes = carrying(1, &[&[9], &count[..], &text].concat());
     assert_eq!(bytes.len(), MOST_BYTES);
-    assert_eq!(row(read(&bytes).unwrap().field(0).unwrap()), [9, 68, 73, MOST_BYTES - 73, 0, MOST_BYTES - 73]);
+    assert_eq!(
+        row(read(&bytes).unwrap().field(0).unwrap()),
+        [9, 68, 73, MOST_BYTES - 73, 0, MOST_BYTES - 73]
+    );
     bytes.push(0);
     assert_eq!(refused(&bytes), (8, 0));
 }

@@ -2,9 +2,10 @@
 
 use std::fmt::Debug;
 
-use sim0mq::{blanked, read, Header, Mark, Message, Value, Writer};
+use sim0mq::{blanked, command, read, salvage, Header, Mark, Message, Recorder, Recording};
+use sim0mq::{Value, Writer};
 
-use crate::{carrying, S};
+use crate::{carrying, recorded, S};
 
 /// A payload of a text, a number and a price.
 const PAYLOAD: &[u8] =
@@ -106,4 +107,32 @@ fn writers_show_how_far_they_are() {
     let unfinished = writer.close().unwrap_err();
     keeps_silent(&unfinished);
     keeps_silent(&unfinished.refusal());
+}
+
+#[test]
+fn recordings_show_their_measures() {
+    let bytes = carrying(3, PAYLOAD);
+    let (whole, length) = (recorded(&[&bytes, S]), bytes.len());
+    let recording = Recording::open(&whole).unwrap();
+    keeps_silent(&recording);
+    keeps_silent(&recording.iter());
+    let shown = format!("Recording {{ length: {}, messages: 2 }}", whole.len());
+    assert_eq!(format!("{recording:?}"), shown);
+    assert_eq!(
+        format!("{:?}", recording.iter()),
+        format!("[0..{length}, {length}..{}]", length + 77)
+    );
+    let mut recorder = Recorder::new();
+    recorder.add(&bytes).unwrap();
+    keeps_silent(&recorder);
+    assert_eq!(format!("{recorder:?}"), format!("Recorder {{ written: {length}, messages: 1 }}"));
+    let salvaged = salvage(&whole[..length + 5]);
+    keeps_silent(&salvaged);
+    let refusal = salvage(&bytes[..80]).stop();
+    let stop = format!("At(Refusal {{ kind: EndsEarly, place: {} }})", length + 5);
+    let shown =
+        format!("Salvaged {{ length: {}, kept: 1, dropped: 5, stop: {stop} }}", length + 18);
+    assert_eq!(format!("{salvaged:?}"), shown);
+    assert_eq!(format!("{refusal:?}"), "At(Refusal { kind: EndsEarly, place: 80 })");
+    keeps_silent(&command(&bytes));
 }

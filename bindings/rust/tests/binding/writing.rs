@@ -129,7 +129,8 @@ fn a_refused_closing_hands_the_writer_back() {
     for field in [&S[68..], &[6, 1]] {
         let unfinished = writer.close().unwrap_err();
         assert_eq!(unfinished.refusal(), Refusal::new(RefusalKind::WriterState, 0));
-        assert_eq!(unfinished.to_string(), "refused 15 at 0: call out of turn in the writer");
+        let words = "refused 15 at 0: call out of turn in the writer or the recorder";
+        assert_eq!(unfinished.to_string(), words);
         writer = unfinished.into_writer();
         writer.add(field).unwrap();
     }
