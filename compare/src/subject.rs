@@ -3,7 +3,7 @@
 mod parts;
 
 pub(crate) use parts::{
-    one_number, reckoning_numbers, recorder_numbers, salvage_numbers, value_numbers,
+    handed_over, one_number, reckoning_numbers, recorder_numbers, salvage_numbers, value_numbers,
 };
 pub use parts::{recorder_of, Parts};
 

@@ -186,7 +186,8 @@ pub fn close(state: Recorder, out: &mut [u8]) -> (Result<u64, Refusal>, Recorder
     if whole(kept, end) > out.len() {
         return (Err(Refusal::new(14, 0)), state);
     }
-    (Ok(tail(kept, end, out)), Recorder { closed: true, ..state })
+    let length = tail(kept, end, out);
+    (Ok(length), Recorder { written: length, closed: true, ..state })
 }
 
 /// Keeps the messages from the front of a file and writes the recording of them.

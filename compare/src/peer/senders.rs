@@ -50,18 +50,15 @@ pub(super) fn take_accepted(
         return Err(Refusal::new(26, sender));
     }
     let number = i64::from_be_bytes(number(message, counted + 1)?);
-    if let Some(place) = find(book, code, id) {
-        if number <= book[place].number {
-            return Err(Refusal::new(27, counted));
-        }
-        book[place].number = number;
-        return Ok(place as u64);
-    }
-    let free = book.iter().position(|entry| !entry.held).ok_or(Refusal::new(28, sender))?;
+    let place = match find(book, code, id) {
+        Some(place) if number <= book[place].number => return Err(Refusal::new(27, counted)),
+        Some(place) => place,
+        None => book.iter().position(|entry| !entry.held).ok_or(Refusal::new(28, sender))?,
+    };
     let mut entry = Entry { held: true, code, size: id.len() as u8, number, ..Entry::default() };
     entry.id[..id.len()].copy_from_slice(id);
-    book[free] = entry;
-    Ok(free as u64)
+    book[place] = entry;
+    Ok(place as u64)
 }
 
 /// Removes a sender and answers whether it was held.

@@ -9,8 +9,8 @@ use crate::peer::recordings::{Recorder, Salvaged, Stop};
 use crate::peer::senders::{Book, Entry};
 use crate::peer::{Reading, Refusal, Value};
 use crate::subject::{
-    give, one_number, reckoning_numbers, recorder_numbers, refused, salvage_numbers, value_numbers,
-    Parts, COMMAND, FORGET, MESSAGE, RECORDING, TAKE,
+    give, handed_over, one_number, reckoning_numbers, recorder_numbers, refused, salvage_numbers,
+    value_numbers, Parts, COMMAND, FORGET, MESSAGE, RECORDING, TAKE,
 };
 
 /// The commands: type id, status and a letter for each field.
@@ -307,20 +307,19 @@ fn taken(book: &Book, message: &[u8], reading: &Reading) -> Judged<(usize, Entry
     }
     let counted = reading.frames[5].0 as usize;
     let number = Scan { bytes: message, at: counted + 1 }.number(8)? as i64;
-    match place_of(book, code, id) {
-        Some(place) if number > book[place].number => Ok((place, Entry { number, ..book[place] })),
-        Some(_) => no(27, counted),
-        None => {
-            let Some(free) = (0..book.len()).find(|&place| !book[place].held) else {
-                return no(28, start as usize);
-            };
-            let mut kept = id.to_vec();
-            kept.resize(32, 0);
-            let id = kept.try_into().expect("32 bytes");
-            let size = (end as usize - start as usize - head) as u8;
-            Ok((free, Entry { held: true, code, size, id, number }))
-        }
-    }
+    let place = match place_of(book, code, id) {
+        Some(place) if number > book[place].number => Some(place),
+        Some(_) => return no(27, counted),
+        None => (0..book.len()).find(|&place| !book[place].held),
+    };
+    let Some(place) = place else {
+        return no(28, start as usize);
+    };
+    let mut kept = id.to_vec();
+    kept.resize(32, 0);
+    let id = kept.try_into().expect("32 bytes");
+    let size = (end as usize - start as usize - head) as u8;
+    Ok((place, Entry { held: true, code, size, id, number }))
 }
 
 /// Takes a message into the book.
@@ -451,7 +450,8 @@ impl Parts for Plain {
     }
 
     fn close_recording(&self, state: Recorder, out: &mut [u8], answer: &mut [u64]) -> u32 {
-        give(answer, || after(state, close(state, out), |_| Recorder { closed: true, ..state }))
+        let next = |written| Recorder { written, closed: true, ..state };
+        give(answer, || after(state, close(state, out), next))
     }
 
     fn salvage(&self, file: &[u8], out: &mut [u8], answer: &mut [u64]) -> u32 {
@@ -463,11 +463,11 @@ impl Parts for Plain {
     }
 
     fn sum(&self, one: Value, two: Value, answer: &mut [u64]) -> u32 {
-        give(answer, || value_numbers(combined(one, two, false)))
+        give(answer, || value_numbers(combined(handed_over(one), handed_over(two), false)))
     }
 
     fn difference(&self, one: Value, two: Value, answer: &mut [u64]) -> u32 {
-        give(answer, || value_numbers(combined(one, two, true)))
+        give(answer, || value_numbers(combined(handed_over(one), handed_over(two), true)))
     }
 
     fn take(&self, book: &mut Book, message: &[u8], answer: &mut [u64]) -> u32 {

@@ -72,6 +72,17 @@ pub(crate) fn value_numbers(result: Result<Value, Refusal>) -> [u64; VALUE] {
     }
 }
 
+/// A scalar in numbers, as the calls of the boundary take it: a double whose bits are a NaN is not
+/// a number, which is how asking answers such bits too.
+pub(crate) fn handed_over(value: Value) -> Value {
+    match value.kind {
+        10 if f64::from_bits(value.bits).is_nan() => {
+            Value { kind: 11, bits: 26, ..Value::default() }
+        }
+        _ => value,
+    }
+}
+
 /// The numbers of a recorder's call.
 pub(crate) fn recorder_numbers((result, state): (Result<u64, Refusal>, Recorder)) -> [u64; RECORD] {
     let Recorder { written, messages, closed } = state;
@@ -159,11 +170,11 @@ impl Parts for Peer {
     }
 
     fn sum(&self, one: Value, two: Value, answer: &mut [u64]) -> u32 {
-        give(answer, || value_numbers(sums::sum(one, two)))
+        give(answer, || value_numbers(sums::sum(handed_over(one), handed_over(two))))
     }
 
     fn difference(&self, one: Value, two: Value, answer: &mut [u64]) -> u32 {
-        give(answer, || value_numbers(sums::difference(one, two)))
+        give(answer, || value_numbers(sums::difference(handed_over(one), handed_over(two))))
     }
 
     fn take(&self, book: &mut Book, message: &[u8], answer: &mut [u64]) -> u32 {

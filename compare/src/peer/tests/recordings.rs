@@ -182,7 +182,7 @@ fn recorded() {
     let (said, three) = add(two, &S, &mut out);
     assert_eq!(said, Ok(189));
     let (said, closed) = close(three, &mut out);
-    assert_eq!((said, closed), (Ok(223), Recorder { closed: true, ..three }));
+    assert_eq!((said, closed), (Ok(223), Recorder { written: 223, closed: true, ..three }));
     assert_eq!(out[..223], recording(&[&S, &LEAST, &S], 2));
     assert_eq!(out[223..], [0xEE; 17]);
     let before = out;

@@ -98,7 +98,10 @@ fn forged_books() {
     let sender = text(b"a");
     assert_eq!(take(&mut book, &from(&sender, 4)), Err(Refusal::new(27, 25)));
     assert_eq!(take(&mut book, &from(&sender, 5)), Ok(2));
-    assert_eq!(book[2], Entry { number: 5, ..book[3] });
+    // The place is written whole, with zeros after the id.
+    let mut id = [0; 32];
+    id[0] = b'a';
+    assert_eq!(book[2], Entry { number: 5, id, ..book[3] });
     assert_eq!(take(&mut book, &from(&text(&[0; 33]), 1)), Err(Refusal::new(26, 13)));
     assert!(!close(&mut book, 9, &[0; 33]));
     assert!(close(&mut book, 9, b"a"));
