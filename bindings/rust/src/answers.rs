@@ -3,7 +3,8 @@
 use crate::raw::{self, Opening, RecorderState, Scalar, State};
 use crate::raw::{BLANK_NUMBERS, READ_NUMBERS, VALUE_NUMBERS, VIEW_NUMBERS, WRITER_NUMBERS};
 use crate::raw::{
-    COMMAND_NUMBERS, RECORDER_NUMBERS, RECORDING_ASK_NUMBERS, RECORDING_NUMBERS, SALVAGE_NUMBERS,
+    COMMAND_NUMBERS, MUSTER_NUMBERS, RECORDER_NUMBERS, RECORDING_ASK_NUMBERS, RECORDING_NUMBERS,
+    SALVAGE_NUMBERS, TAKE_NUMBERS,
 };
 use crate::refusal::Refusal;
 
@@ -123,4 +124,27 @@ pub(crate) fn sum(a: Scalar, b: Scalar) -> Result<[u64; VALUE_NUMBERS], Refusal>
 /// The difference of two scalars: the numbers of the answer, or the refusal.
 pub(crate) fn difference(a: Scalar, b: Scalar) -> Result<[u64; VALUE_NUMBERS], Refusal> {
     answered(|answer| raw::difference(a, b, answer))
+}
+
+/// Taking a message into a book: the sender's place, and the book with it; or the refusal.
+pub(crate) fn take(book: &mut [u64], message: &[u8]) -> Result<usize, Refusal> {
+    let answer: [u64; TAKE_NUMBERS] = answered(|answer| raw::take(book, message, answer))?;
+    Ok(answer[2] as usize)
+}
+
+/// Closing a sender: 1 where it was held and 0 where not, and the book without it; or the refusal.
+pub(crate) fn close_sender(book: &mut [u64], code: u64, id: &[u8]) -> Result<usize, Refusal> {
+    let answer: [u64; TAKE_NUMBERS] = answered(|answer| raw::close_sender(book, code, id, answer))?;
+    Ok(answer[2] as usize)
+}
+
+/// Mustering a message: the sender's place, and ledger and book after it; or the refusal.
+pub(crate) fn muster(
+    decks: &mut [u16],
+    book: &mut [u64],
+    message: &[u8],
+) -> Result<usize, Refusal> {
+    let answer: [u64; MUSTER_NUMBERS] =
+        answered(|answer| raw::muster(decks, book, message, answer))?;
+    Ok(answer[2] as usize)
 }

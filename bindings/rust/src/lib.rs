@@ -18,6 +18,8 @@
 //! | [`salvage()`] | a [`Salvaged`]: the recording of the messages at the front of a cut file |
 //! | [`command()`] | which [`Command`] of the manual's chapter 4 a message is |
 //! | [`sum`], [`difference`] | of two quantities, the [`Value`] with its unit |
+//! | [`Senders`] | a book of senders, by which a message that comes again is refused |
+//! | [`Ledger`], [`reckon`] | the heads on each deck, by musters one by one; by those of a recording |
 //!
 //! Each is refused by a [`Refusal`], a number and a place, and what was lent is then as it was.
 //!
@@ -62,6 +64,7 @@ mod blanking;
 mod command;
 mod field;
 mod frames;
+mod ledger;
 mod message;
 #[allow(unsafe_code)]
 pub mod raw;
@@ -69,6 +72,7 @@ mod recorder;
 mod recording;
 mod refusal;
 mod salvage;
+mod senders;
 mod sums;
 mod value;
 mod writer;
@@ -78,11 +82,13 @@ pub use blanking::{blank, blanked};
 pub use command::{command, Command};
 pub use field::{Field, Fields};
 pub use frames::{judge, Frame, Id, Summary};
+pub use ledger::{reckon, Ledger, Reckoned, DECKS};
 pub use message::{read, Message};
 pub use recorder::Recorder;
 pub use recording::{message_of, Messages, Recording};
 pub use refusal::{Refusal, RefusalKind};
 pub use salvage::{salvage, Salvaged, Stop};
+pub use senders::Senders;
 pub use sums::{difference, sum};
 pub use value::{Mark, Value};
 pub use writer::{Header, Unfinished, Writer};

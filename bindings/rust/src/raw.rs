@@ -9,8 +9,10 @@
 //! of elements behind it, and that the buffers of one call do not overlap. A slice gives the first,
 //! an empty one too. The second follows from the borrows: what is written is borrowed alone.
 
+mod books;
 mod parts;
 
+pub use books::*;
 pub use parts::*;
 
 /// What is returned where `answer` is too short; nothing is then written.

@@ -3,11 +3,13 @@
 mod asking;
 mod blanking;
 mod commands;
+mod musters;
 mod reading;
 mod recordings;
 mod refusals;
 mod salvaging;
 mod secrecy;
+mod senders;
 mod summing;
 mod writing;
 

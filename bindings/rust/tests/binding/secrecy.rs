@@ -2,10 +2,10 @@
 
 use std::fmt::Debug;
 
-use sim0mq::{blanked, command, read, salvage, Header, Mark, Message, Recorder, Recording};
-use sim0mq::{Value, Writer};
+use sim0mq::{blanked, command, read, reckon, salvage, Command, Header, Ledger, Mark, Message};
+use sim0mq::{Messages, Reckoned, Recorder, Recording, Salvaged, Senders, Stop, Value, Writer};
 
-use crate::{carrying, recorded, S};
+use crate::{carrying, of_type, recorded, S};
 
 /// A payload of a text, a number and a price.
 const PAYLOAD: &[u8] =
@@ -135,4 +135,31 @@ fn recordings_show_their_measures() {
     assert_eq!(format!("{salvaged:?}"), shown);
     assert_eq!(format!("{refusal:?}"), "At(Refusal { kind: EndsEarly, place: 80 })");
     keeps_silent(&command(&bytes));
+}
+
+#[test]
+fn books_show_their_counts() {
+    let mut senders = Senders::new();
+    senders.take(S).unwrap();
+    keeps_silent(&senders);
+    assert_eq!(format!("{senders:?}"), "Senders { held: 1 }");
+    let mut ledger = Ledger::new();
+    for number in 1..=124 {
+        ledger.muster(&of_type("MUS.1", number, 1, &[&[0, 7]])).unwrap();
+    }
+    keeps_silent(&ledger);
+    assert_eq!(format!("{ledger:?}"), "Ledger { senders: Senders { held: 1 }, .. }");
+    let reckoned = reckon(&recorded(&[S, &of_type("MUS.1", 124, 1, &[&[0, 7]])])).unwrap();
+    keeps_silent(&reckoned);
+    assert_eq!(format!("{reckoned:?}"), "Reckoned { applied: 1, refused: 1, .. }");
+}
+
+/// Every type may go to another thread.
+fn goes_anywhere<T: Send + Sync>() {}
+
+#[test]
+fn every_type_goes_to_another_thread() {
+    goes_anywhere::<(Message, Value, Mark, Header, Writer)>();
+    goes_anywhere::<(Recording, Messages, Recorder, Salvaged, Stop)>();
+    goes_anywhere::<(Command, Senders, Ledger, Reckoned)>();
 }
