@@ -83,6 +83,8 @@ fn parts(name: &str) -> Option<&'static dyn Parts> {
     match name {
         "peer" => Some(&Peer),
         "plain" => Some(&Plain),
+        #[cfg(feature = "product")]
+        "product" => Some(&Product),
         _ => None,
     }
 }

@@ -1,5 +1,7 @@
 //! The implementation behind the C boundary, by the raw calls of `bindings/rust`.
 
+mod parts;
+
 use crate::peer::{State, Value};
 use crate::subject::{Opening, Subject};
 use sim0mq::raw;
@@ -12,6 +14,12 @@ pub struct Product;
 fn taken(state: State) -> raw::State {
     let State { written, declared, added, closed } = state;
     raw::State { written, declared, added, closed: u8::from(closed) }
+}
+
+/// A scalar, as the boundary takes it.
+fn scalar(value: Value) -> raw::Scalar {
+    let Value { kind, bits, unit, currency, display } = value;
+    raw::Scalar { kind, bits, unit, currency, display }
 }
 
 impl Subject for Product {
@@ -50,9 +58,7 @@ impl Subject for Product {
     }
 
     fn add_scalar(&self, state: State, value: Value, out: &mut [u8], answer: &mut [u64]) -> u32 {
-        let Value { kind, bits, unit, currency, display } = value;
-        let scalar = raw::Scalar { kind, bits, unit, currency, display };
-        raw::add_scalar(taken(state), scalar, out, answer)
+        raw::add_scalar(taken(state), scalar(value), out, answer)
     }
 
     fn close(&self, state: State, answer: &mut [u64]) -> u32 {
