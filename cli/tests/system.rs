@@ -3,7 +3,7 @@
 mod common;
 
 use std::fs::{self, File};
-use std::io::Read;
+use std::io::{Read, Write};
 use std::process::{Command, Stdio};
 
 use common::{command, folder, names, word, BUILT};
@@ -103,6 +103,27 @@ fn a_folder_that_is_not_there_is_told_by_the_files_name() {
     let ran = common::ran(&["blank", "message.bin", "-o", word(&out)]);
     let told = format!("sim0mq: {}: No such file or directory (os error 2)\n", out.display());
     assert_eq!((ran.status, ran.err), (2, told));
+}
+
+#[test]
+fn a_file_that_comes_meanwhile_is_kept() {
+    let folder = folder("meanwhile");
+    let out = folder.join("out");
+    let mut record = command(&["record", "-o", word(&out), "-"]);
+    let child = record.stdin(Stdio::piped()).stderr(Stdio::piped()).spawn();
+    let mut child = child.expect("it runs");
+    let mut input = child.stdin.take().expect("its input");
+    // it has looked for the file when it reads more than a pipe holds
+    input.write_all(&common::muster(1, 1, &[0]).repeat(4096)).expect("it reads");
+    fs::write(&out, "kept").expect("a file");
+    drop(input);
+    let output = child.wait_with_output().expect("it ends");
+    let told = format!("sim0mq: {}: is there; --force replaces it\n", out.display());
+    assert_eq!((output.status.code(), output.stderr), (Some(2), told.into_bytes()));
+    assert_eq!(
+        (names(&folder), fs::read(&out).expect("a file")),
+        (vec!["out".into()], b"kept".to_vec())
+    );
 }
 
 #[test]

@@ -30,6 +30,17 @@ fn list_prints_what_the_program_prints() {
 }
 
 #[test]
+fn list_has_a_line_for_each_field() {
+    let two_columns =
+        [&[31, 0, 0, 0, 1, 0, 0, 0, 2][..], &[16, 11, 101, 3, 0xd2, 21], &[0, 0, 0, 0, 1, 1, 1, 1]];
+    let fields: [&[u8]; 3] = [&[0, 5], &[9, 0, 0, 0, 2, 65, 66], &two_columns.concat()];
+    let message = message(&text(b"X"), 1, 1, &fields);
+    let wanted =
+        "SIM01 fields 3 steps 13 length 94\n0 0 62 63 1 0 1\n1 9 64 69 2 0 2\n2 31 71 86 8 2 2\n";
+    assert_eq!(fed(&["list"], &message), fine(wanted));
+}
+
+#[test]
 fn what_is_refused_is_told_by_number_and_place() {
     let empty = "the bytes end too early";
     assert_eq!(ran(&["list"]), refused("refused 1 at 0", "standard input", empty));
@@ -79,6 +90,16 @@ fn blank_of_a_recording_is_the_librarys() {
     damaged[68 + 5] = b'X';
     let wanted = refused("refused 2 at 73", "standard input", start);
     assert_eq!(fed(&["blank"], &damaged), wanted);
+}
+
+#[test]
+fn a_recording_of_the_first_edition_stays_one() {
+    let tail = [0, 0, 0, 0, 0, 77, 0, 0, 0, 77, 0, 0, 0, 1, 0, 1];
+    let old = [&sample("message.bin")[..], &tail].concat();
+    let wanted = sim0mq::Recording::open(&old).expect("a recording").blanked();
+    assert_eq!(bytes(&["blank"], &old).stdout, wanted);
+    assert_eq!(wanted, [&bytes(&["blank", "message.bin"], b"").stdout[..], &tail].concat());
+    assert_eq!(fed(&["messages", "-"], &old), fine("0 0 77 1 9 DSOL.3 2\n"));
 }
 
 /// A message with one scalar field.
