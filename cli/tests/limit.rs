@@ -94,6 +94,8 @@ fn killed(most: &Path, out: &Path) -> bool {
     thread::sleep(Duration::from_millis(5));
     child.kill().expect("it can be killed");
     child.wait().expect("it ends");
+    let size = |path: &Path| fs::metadata(path).map(|about| about.len()).ok();
+    assert!(size(out).is_none_or(|length| Some(length) == size(most)), "half a file");
     !out.exists()
 }
 
