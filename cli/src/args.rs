@@ -1,6 +1,7 @@
 //! The words of a call: operands and options.
 
 use std::ffi::{OsStr, OsString};
+use std::os::unix::ffi::OsStrExt;
 use std::path::Path;
 
 use crate::failure::Failure;
@@ -89,11 +90,7 @@ impl Given {
         word: &OsStr,
         rest: &mut impl Iterator<Item = &'w OsString>,
     ) -> Result<(), Failure> {
-        let text = word.to_string_lossy();
-        let (name, joined) = match text.split_once('=') {
-            Some((name, value)) if name.starts_with("--") => (name, Some(OsString::from(value))),
-            _ => (&*text, None),
-        };
+        let (name, joined) = split(word);
         let wrong = |what: &str| Err(bad(takes, &format!("{name}: {what}")));
         let Some((_, option, valued)) = WORDS.into_iter().find(|known| known.0 == name) else {
             return wrong("no such option");
@@ -163,9 +160,22 @@ impl Given {
     }
 }
 
+/// The name of an option, and what is joined to a long one by `=`; a name may be any bytes.
+fn split(word: &OsStr) -> (String, Option<OsString>) {
+    let equals = word.as_bytes().iter().position(|&byte| byte == b'=');
+    match equals.filter(|_| word.as_bytes().starts_with(b"--")) {
+        None => (word.to_string_lossy().into_owned(), None),
+        Some(at) => {
+            let (name, value) = word.as_bytes().split_at(at);
+            let name = String::from_utf8_lossy(name).into_owned();
+            (name, Some(OsStr::from_bytes(&value[1..]).to_os_string()))
+        }
+    }
+}
+
 /// Whether a word is meant as an option.
 fn is_option(word: &OsStr) -> bool {
-    word.as_encoded_bytes().starts_with(b"-")
+    word.as_bytes().starts_with(b"-")
 }
 
 /// The number that a word says, by digits alone.

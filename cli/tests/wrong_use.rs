@@ -151,6 +151,13 @@ fn names_may_begin_with_a_dash_or_be_any_bytes() {
         let output = command(&["list", "--"]).arg(name).current_dir(&folder).output();
         assert_eq!(output.expect("a run").status.code(), Some(0));
     }
+    let mut decks = command(&["decks", "season.rec"]);
+    let joined = [b"--svg=", folder.as_os_str().as_bytes(), b"/\xff.svg"].concat();
+    assert_eq!(
+        decks.arg(OsStr::from_bytes(&joined)).output().expect("a run").status.code(),
+        Some(0)
+    );
+    assert!(folder.join(OsStr::from_bytes(b"\xff.svg")).exists());
 }
 
 #[test]
