@@ -1,17 +1,35 @@
-# make: prove what `list` stands on and list a sample message. make check: prove all the rest, and run every program.
-# make test: the gate, from nothing, with the must-fail edits and the bindings' tests. make calls: every public call
-# with its contract and with what is determined: its result, and each buffer. make example: the C example, built for
-# this machine and run. make compare: a million cases of the library against the independent reader in compare/, and as
-# many of the second one, in C, against it. make bench: how fast the three are, side by side, written into
+# make: prove what `list` stands on and list a sample message, build the command `sim0mq` and ask it how many people
+# sleep on deck seven. make install PREFIX=FOLDER: install that command. make check: prove all the rest, and run every
+# program. make test: the gate, from nothing, with the must-fail edits and the bindings' tests. make calls: every public
+# call with its contract and with what is determined: its result, and each buffer. make example: the C example, built
+# for this machine and run. make compare: a million cases of the library against the independent reader in compare/, and
+# as many of the second one, in C, against it. make bench: how fast the three are, side by side, written into
 # docs/SPEED.md and docs/growth.svg. make versus BEFORE=FILE: how fast the library is beside an earlier one, FILE being
 # the libsim0mq.a of another checkout.
-.PHONY: all check test calls bindings example compare bench versus
+.PHONY: all command install check test calls bindings example compare bench versus
 
 PEER = cd compare && SIM0MQ_LIB_DIR=$(CURDIR)/target/native CARGO_TARGET_DIR=$(CURDIR)/target/native/compare cargo run --release --offline --quiet --features product
+
+COMMAND = target/native/cli/release/sim0mq
+PREFIX = /usr/local
+INSTALL = install -D -m
 
 all:
 	@tools/prove list
 	@tools/run list < crates/list/stdin
+	@$(MAKE) --no-print-directory command
+	@echo "How many people sleep on deck seven?"
+	@$(COMMAND) decks cli/samples/season.rec --deck 7
+
+command: target/native/libsim0mq.a
+	@cd cli && SIM0MQ_LIB_DIR=$(CURDIR)/target/native CARGO_TARGET_DIR=$(CURDIR)/target/native/cli cargo build --release --offline --quiet
+
+install: command
+	@$(INSTALL) 755 $(COMMAND) $(DESTDIR)$(PREFIX)/bin/sim0mq
+	@$(INSTALL) 644 cli/sim0mq.1 $(DESTDIR)$(PREFIX)/share/man/man1/sim0mq.1
+	@$(INSTALL) 644 cli/completion.bash $(DESTDIR)$(PREFIX)/share/bash-completion/completions/sim0mq
+	@$(INSTALL) 644 -t $(DESTDIR)$(PREFIX)/share/sim0mq cli/samples/*
+	@echo "sim0mq is in $(DESTDIR)$(PREFIX)/bin, its samples are in $(DESTDIR)$(PREFIX)/share/sim0mq"
 
 check:
 	@tools/prove

@@ -30,15 +30,13 @@ fn options(text: &str) -> BTreeSet<String> {
         .collect()
 }
 
-/// What a shell prints where the command is at hand, in the folder of the samples.
-fn shell(script: &str) -> String {
-    let folder = Path::new(common::BUILT).parent().expect("a folder");
-    let path = format!("{}:{}", folder.display(), env::var("PATH").expect("a path"));
-    let output =
-        Command::new("bash").args(["-c", script]).current_dir(samples()).env("PATH", path).output();
-    let output = output.expect("a shell");
-    assert!(output.status.success(), "{script}");
-    String::from_utf8(output.stdout).expect("text")
+/// What a shell prints in this folder, where the command is at hand.
+fn shell(folder: &Path, script: &str) -> String {
+    let built = Path::new(common::BUILT).parent().expect("a folder");
+    let path = format!("{}:{}", built.display(), env::var("PATH").expect("a path"));
+    let mut shell = Command::new("bash");
+    let output = shell.args(["-c", script]).current_dir(folder).env("PATH", path).output();
+    String::from_utf8(output.expect("a shell").stdout).expect("text")
 }
 
 #[test]
@@ -51,8 +49,31 @@ fn each_command_has_help_with_an_example_that_works() {
         let (_, example) = help.split_once("\n    $ ").expect("an example");
         let (script, wanted) = example.split_once('\n').expect("its output");
         let wanted: String = wanted.lines().map(|line| format!("{}\n", &line[4..])).collect();
-        assert_eq!(shell(script), wanted, "{script}");
+        assert_eq!(shell(&samples(), script), wanted, "{script}");
     }
+}
+
+#[test]
+fn the_readme_has_what_the_command_prints() {
+    let root = common::repository(".");
+    let readme = fs::read_to_string(root.join("README.md")).expect("the README");
+    let first = "    $ sim0mq decks cli/samples/season.rec --deck 7\n    10\n";
+    assert!(readme.find(first).is_some_and(|place| place < 200));
+    let mut lines = readme.lines().peekable();
+    let mut run = 0;
+    while let Some(line) = lines.next() {
+        let Some(script) = line.strip_prefix("    $ sim0mq ") else {
+            continue;
+        };
+        let mut wanted = String::new();
+        let printed = |line: &&str| line.starts_with("    ") && !line.starts_with("    $");
+        while let Some(line) = lines.next_if(printed) {
+            wanted += &format!("{}\n", &line[4..]);
+        }
+        assert_eq!(shell(&root, &format!("sim0mq {script} 2>/dev/null")), wanted, "{script}");
+        run += 1;
+    }
+    assert!(run >= 5);
 }
 
 #[test]
@@ -102,7 +123,7 @@ fn offered(words: &str) -> Vec<String> {
          _sim0mq sim0mq \"${{COMP_WORDS[COMP_CWORD]}}\" \"${{COMP_WORDS[COMP_CWORD - 1]}}\"; \
          printf '%s\\n' \"${{COMPREPLY[@]}}\""
     );
-    let mut words: Vec<String> = shell(&script).lines().map(String::from).collect();
+    let mut words: Vec<String> = shell(&samples(), &script).lines().map(String::from).collect();
     words.sort();
     words
 }
