@@ -1,11 +1,11 @@
-# make: prove what `list` stands on and list a sample message, build the command `sim0mq` and ask it how many people
-# sleep on deck seven. make install PREFIX=FOLDER: install that command. make check: prove all the rest, and run every
-# program. make test: the gate, from nothing, with the must-fail edits and the bindings' tests. make calls: every public
-# call with its contract and with what is determined: its result, and each buffer. make example: the C example, built
-# for this machine and run. make compare: a million cases of the library against the independent reader in compare/, and
-# as many of the second one, in C, against it. make bench: how fast the three are, side by side, written into
-# docs/SPEED.md and docs/growth.svg. make versus BEFORE=FILE: how fast the library is beside an earlier one, FILE being
-# the libsim0mq.a of another checkout.
+# make: prove what `list` and the library for C and Rust stand on, list a sample message, build the command `sim0mq` and
+# ask it how many people sleep on deck seven. make install PREFIX=FOLDER: install that command. make check: prove all
+# the rest, and run every program. make test: the gate, from nothing, with the must-fail edits and the bindings' tests.
+# make calls: every public call with its contract and with what is determined: its result, and each buffer. make
+# example: the C example, built for this machine and run. make compare: a million cases of the library against the
+# independent reader in compare/, and as many of the second one, in C, against it. make bench: how fast the three are,
+# side by side, written into docs/SPEED.md and docs/growth.svg. make versus BEFORE=FILE: how fast the library is beside
+# an earlier one, FILE being the libsim0mq.a of another checkout.
 .PHONY: all command install check test calls bindings example compare bench versus
 
 PEER = cd compare && SIM0MQ_LIB_DIR=$(CURDIR)/target/native CARGO_TARGET_DIR=$(CURDIR)/target/native/compare cargo run --release --offline --quiet --features product
@@ -14,8 +14,11 @@ COMMAND = target/native/cli/release/sim0mq
 PREFIX = /usr/local
 INSTALL = install -D -m
 
+# the crates whose calls are in the library for C and Rust
+LIBRARY = $(shell grep -l no_mangle crates/boundary_*/src/lib.rt | cut -d/ -f2)
+
 all:
-	@tools/prove list
+	@tools/prove list $(LIBRARY)
 	@tools/run list < crates/list/stdin
 	@$(MAKE) --no-print-directory command
 	@echo "How many people sleep on deck seven?"
@@ -43,7 +46,7 @@ calls:
 bindings:
 	@tools/test-bindings
 
-target/native/libsim0mq.a:
+target/native/libsim0mq.a: $(wildcard crates/*/src/*.rt) tools/native-library
 	@tools/native-library
 
 example: target/native/libsim0mq.a
