@@ -295,7 +295,7 @@ uint32_t sim0mq_command(const uint8_t *message, size_t message_len, uint64_t *an
  * takes and hands back; a new one has 0 in each:
  *
  *     answer[2]    the number of bytes written so far; after closing, the length of the recording; 0 on a refusal
- *     answer[3]    the state: written
+ *     answer[3]    the state: written, the bytes of the messages so far; after closing, those of the recording
  *     answer[4]               messages
  *     answer[5]               closed, 0 or 1
  *
