@@ -1,4 +1,7 @@
-//! The messages that are timed: all have the header of the manual's example.
+//! The messages and recordings that are timed. But for musters and commands, all have the header of the
+//! manual's example.
+
+use crate::peer::recordings::{self, Recorder, MOST_MESSAGES};
 
 /// A message to time with.
 pub struct Sample {
@@ -50,11 +53,84 @@ pub fn any_bytes(length: usize) -> Sample {
     message("bytes", vec![array(11, size as u32, vec![0x3F; size])])
 }
 
+/// A muster from the sender of this number, below 100: one joins the first deck, and leaves the second where
+/// there are two.
+#[must_use]
+pub fn muster(sender: u8, decks: &[u8]) -> Sample {
+    let sender = [b"MC.".as_slice(), &[b'0' + sender / 10, b'0' + sender % 10]].concat();
+    let fields = decks.iter().map(|&deck| vec![0, deck]).collect();
+    addressed("a muster", &sender, b"MUS.1", decks.len() as u8, fields)
+}
+
+/// Gives a message of a muster's ids and fields another number.
+pub fn renumber(muster: &mut [u8], number: i64) {
+    const AT: usize = 55;
+    muster[AT..AT + 8].copy_from_slice(&number.to_be_bytes());
+}
+
+/// The recording of as many who join as there may be messages, from 32 senders, on all decks.
+#[must_use]
+pub fn joined() -> Vec<u8> {
+    let mut number = 0;
+    recorded(|| {
+        let mut message = muster(number as u8 % 32, &[number as u8 % 16]).bytes;
+        number += 1;
+        renumber(&mut message, number);
+        message
+    })
+}
+
+/// Commands: the one of the most fields, and one of none.
+#[must_use]
+pub fn commands() -> [Sample; 2] {
+    let words = ["m", "1", "", "java", "-jar", "/usr/local/model.jar", "", "/tmp", "/tmp/out"];
+    let text =
+        |word: &str| [&[9][..], &(word.len() as u32).to_be_bytes(), word.as_bytes()].concat();
+    let fields = words.map(text).into_iter().chain([0, 1, 1].map(|deleted| vec![6, deleted]));
+    [
+        addressed("FM.1, of 12 fields", b"FM", b"FM.1", 1, fields.collect()),
+        addressed("FM.4, of none", b"FM", b"FM.4", 1, Vec::new()),
+    ]
+}
+
+/// The recording of as many of a message as there may be.
+#[must_use]
+pub fn recording(message: &[u8]) -> Vec<u8> {
+    recorded(|| message.to_vec())
+}
+
+/// The recording of as many messages as there may be.
+fn recorded(mut next: impl FnMut() -> Vec<u8>) -> Vec<u8> {
+    let mut bytes = vec![0; MOST_MESSAGES as usize * (2_000 + 8) + 10];
+    let mut state = Recorder::NEW;
+    for _ in 0..MOST_MESSAGES {
+        state = recordings::add(state, &next(), &mut bytes).1;
+    }
+    let length = recordings::close(state, &mut bytes).0.expect("the recording is closed");
+    bytes.truncate(length as usize);
+    bytes
+}
+
 /// A message of these fields.
 fn message(name: &'static str, fields: Vec<Vec<u8>>) -> Sample {
-    let mut bytes = b"\x09\0\0\0\x05SIM01\x09\0\0\0\x09IDVV.14.2\x09\0\0\0\x04MC.1\
-        \x09\0\0\0\x05MM1.4\x09\0\0\0\x06DSOL.3\x03\0\0\0\0\0\0\0\x7C\0\x02\x01"
-        .to_vec();
+    addressed(name, b"MC.1", b"DSOL.3", 2, fields)
+}
+
+/// A message of this sender, type id, status and fields.
+fn addressed(
+    name: &'static str,
+    sender: &[u8],
+    type_id: &[u8],
+    status: u8,
+    fields: Vec<Vec<u8>>,
+) -> Sample {
+    let mut bytes = Vec::new();
+    for id in [b"SIM01", &b"IDVV.14.2"[..], sender, b"MM1.4", type_id] {
+        bytes.extend([9, 0, 0, 0, id.len() as u8]);
+        bytes.extend(id);
+    }
+    bytes.extend(b"\x03\0\0\0\0\0\0\0\x7C\0");
+    bytes.extend([status, 1]);
     bytes.extend((fields.len() as u16).to_be_bytes());
     bytes.extend(fields.concat());
     Sample { name, bytes, fields }
@@ -83,8 +159,10 @@ fn matrix(columns: u32) -> Vec<u8> {
 
 #[cfg(test)]
 mod tests {
-    use super::{any_bytes, boolean_bytes, byte_fields, samples};
-    use crate::peer::{read, Refusal};
+    use super::{
+        any_bytes, boolean_bytes, byte_fields, commands, joined, muster, recording, samples,
+    };
+    use crate::peer::{self, read, Refusal};
 
     #[test]
     fn samples_are_what_they_say() {
@@ -109,5 +187,20 @@ mod tests {
             let read = read(&byte_fields(fields).bytes, None);
             assert_eq!(read.map(|reading| reading.fields), Ok(fields as u64));
         }
+    }
+    #[test]
+    fn parts_are_timed_on_what_they_say() {
+        let [most, none] = commands().map(|sample| peer::commands::command(&sample.bytes));
+        assert_eq!((most, none), (Ok(1), Ok(4)));
+        let (mut ledger, mut book) = ([1; 16], peer::senders::empty());
+        for sender in 0..32 {
+            let message = muster(sender, &[3, 3]).bytes;
+            let taken = peer::ledger::muster(&mut ledger, &mut book, &message);
+            assert_eq!(taken, Ok(sender.into()));
+        }
+        let reckoned =
+            peer::ledger::reckon(&joined()).map(|reckoned| (reckoned.ledger, reckoned.applied));
+        assert_eq!(reckoned, Ok(([256; 16], 4096)));
+        assert_eq!(peer::recordings::open(&recording(&samples()[0].bytes)), Ok(4096));
     }
 }

@@ -134,14 +134,17 @@ impl Parts for Peer {
         "peer"
     }
 
+    #[inline(never)]
     fn open_recording(&self, recording: &[u8], answer: &mut [u64]) -> u32 {
         give::<RECORDING>(answer, || one_number(recordings::open(recording)))
     }
 
+    #[inline(never)]
     fn open_into(&self, recording: &[u8], table: &mut [u32], answer: &mut [u64]) -> u32 {
         give::<RECORDING>(answer, || one_number(recordings::open_into(recording, table)))
     }
 
+    #[inline(never)]
     fn ask_message(&self, recording: &[u8], k: u64, answer: &mut [u64]) -> u32 {
         give::<MESSAGE>(answer, || match recordings::ask(recording, k) {
             Err(refusal) => refused(refusal),
@@ -149,42 +152,52 @@ impl Parts for Peer {
         })
     }
 
+    #[inline(never)]
     fn new_recorder(&self, answer: &mut [u64]) -> u32 {
         give(answer, || recorder_numbers((Ok(0), Recorder::NEW)))
     }
 
+    #[inline(never)]
     fn record(&self, state: Recorder, message: &[u8], out: &mut [u8], answer: &mut [u64]) -> u32 {
         give(answer, || recorder_numbers(recordings::add(state, message, out)))
     }
 
+    #[inline(never)]
     fn close_recording(&self, state: Recorder, out: &mut [u8], answer: &mut [u64]) -> u32 {
         give(answer, || recorder_numbers(recordings::close(state, out)))
     }
 
+    #[inline(never)]
     fn salvage(&self, file: &[u8], out: &mut [u8], answer: &mut [u64]) -> u32 {
         give(answer, || salvage_numbers(recordings::salvage(file, out)))
     }
 
+    #[inline(never)]
     fn command(&self, message: &[u8], answer: &mut [u64]) -> u32 {
         give::<COMMAND>(answer, || one_number(commands::command(message)))
     }
 
+    #[inline(never)]
     fn sum(&self, one: Value, two: Value, answer: &mut [u64]) -> u32 {
         give(answer, || value_numbers(sums::sum(handed_over(one), handed_over(two))))
     }
 
+    #[inline(never)]
     fn difference(&self, one: Value, two: Value, answer: &mut [u64]) -> u32 {
         give(answer, || value_numbers(sums::difference(handed_over(one), handed_over(two))))
     }
 
+    #[inline(never)]
     fn take(&self, book: &mut Book, message: &[u8], answer: &mut [u64]) -> u32 {
         give::<TAKE>(answer, || one_number(senders::take(book, message)))
     }
 
+    #[inline(never)]
     fn forget(&self, book: &mut Book, code: u8, id: &[u8], answer: &mut [u64]) -> u32 {
         give::<FORGET>(answer, || [0, 0, u64::from(senders::close(book, code, id))])
     }
 
+    #[inline(never)]
     fn muster(
         &self,
         ledger: &mut Ledger,
@@ -195,6 +208,7 @@ impl Parts for Peer {
         give::<TAKE>(answer, || one_number(ledger::muster(ledger, book, message)))
     }
 
+    #[inline(never)]
     fn reckon(&self, recording: &[u8], answer: &mut [u64]) -> u32 {
         give(answer, || reckoning_numbers(ledger::reckon(recording)))
     }

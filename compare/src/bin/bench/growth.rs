@@ -1,7 +1,7 @@
 //! How cost grows: reading and blanking over the number of fields and over the number of bytes.
 
-use crate::measure::{measure, Rounds, Spread, Who, ALL};
-use crate::work::{Blanking, Reading, Work};
+use crate::measure::{Rounds, Spread};
+use crate::work::{measured, Blanking, Reading, Who, Work, ALL};
 use compare::samples::{any_bytes, boolean_bytes, byte_fields, Sample};
 
 /// The cost of one call over growing messages.
@@ -56,11 +56,11 @@ fn lines<'a, W: Work>(
     judged: bool,
     of: fn(&'a Sample) -> W,
 ) -> Vec<Line> {
-    let measured: Vec<(f64, Rounds)> =
-        samples.iter().map(|(size, sample)| (*size as f64, measure(of(sample)))).collect();
+    let all: Vec<(f64, Rounds)> =
+        samples.iter().map(|(size, sample)| (*size as f64, measured(of(sample)))).collect();
     let many = if W::COPIES { 4 } else { 3 };
     let line = |&who: &Who| {
-        let points = measured.iter().map(|(size, rounds)| (*size, rounds.nanos(who))).collect();
+        let points = all.iter().map(|(size, rounds)| (*size, rounds.nanos(who))).collect();
         Line { who, judged, points }
     };
     ALL[..many].iter().map(line).collect()

@@ -1,10 +1,11 @@
-//! `bench [PAGE PICTURE]`: times the library, the reader in Rust, the one in C and `memcpy` side by side.
+//! `bench [PAGE PICTURE]`: times the library, the reader in Rust, the one in C and `memcpy` side by side, and
+//! what is built on messages in the library and in Rust.
 //!
-//! Prints a table of it. PAGE gets the table between its two marks, and PICTURE a drawing of how cost
-//! grows.
+//! Prints a table of each. PAGE gets both, each between its two marks, and PICTURE a drawing of how cost grows.
 
 mod growth;
 mod measure;
+mod parts;
 mod picture;
 mod table;
 mod work;
@@ -18,6 +19,7 @@ fn main() -> ExitCode {
     let done = match &words[..] {
         [] => {
             table::table();
+            parts::table();
             Ok(())
         }
         [page, picture] => all(page, picture),
@@ -35,8 +37,10 @@ fn main() -> ExitCode {
 /// Times everything and writes both files.
 fn all(page: &str, picture: &str) -> Result<(), String> {
     let table = table::table();
+    let parts = parts::table();
     let drawn = picture::draw(&growth::growth());
-    table::write(page, &table)?;
+    table::write(page, "the table", &table)?;
+    table::write(page, "the table of the parts", &parts)?;
     fs::write(picture, drawn).map_err(|error| format!("{picture}: {error}"))?;
     println!("{page} and {picture} are written");
     Ok(())

@@ -1,27 +1,11 @@
 //! Times calls in rounds, in each of which every subject takes its turn.
 
-use crate::work::Work;
-use compare::c_peer::CPeer;
-use compare::product::Product;
-use compare::subject::Peer;
 use std::time::{Duration, Instant};
 
 /// Rounds of each measurement.
 pub const ROUNDS: usize = 101;
 /// How long, at least, one subject is timed in one round.
 const ROUND: Duration = Duration::from_micros(300);
-
-/// Who is timed; `memcpy` comes last, as not all calls have it beside them.
-#[derive(Clone, Copy, Debug, PartialEq, Eq)]
-pub enum Who {
-    Library,
-    Rust,
-    C,
-    Memcpy,
-}
-
-/// All that are timed, in the order of [`Who`].
-pub const ALL: [Who; 4] = [Who::Library, Who::Rust, Who::C, Who::Memcpy];
 
 /// A median with its quartiles.
 #[derive(Clone, Copy, Debug)]
@@ -31,53 +15,50 @@ pub struct Spread {
     pub upper: f64,
 }
 
-/// The nanoseconds of one call, in each round, of all in the order of [`Who`].
+/// The nanoseconds of one call, in each round, of all that took turns, by their places.
 pub struct Rounds(Vec<[f64; 4]>);
 
 impl Rounds {
     /// The nanoseconds of one call.
-    pub fn nanos(&self, who: Who) -> Spread {
-        spread(self.0.iter().map(|round| round[who as usize]))
+    pub fn nanos(&self, who: impl Into<usize>) -> Spread {
+        let who = who.into();
+        spread(self.0.iter().map(|round| round[who]))
     }
 
     /// The time of one over that of another, round by round.
-    pub fn ratio(&self, one: Who, other: Who) -> Spread {
-        spread(self.0.iter().map(|round| round[one as usize] / round[other as usize]))
+    pub fn ratio(&self, one: impl Into<usize>, other: impl Into<usize>) -> Spread {
+        let (one, other) = (one.into(), other.into());
+        spread(self.0.iter().map(|round| round[one] / round[other]))
     }
 }
 
-/// Times the calls; without `memcpy` where it is not worth it.
-pub fn measure<W: Work>(mut work: W) -> Rounds {
-    let many = if W::COPIES { 4 } else { 3 };
-    let times: Vec<u64> = ALL[..many].iter().map(|&who| calibrate(&mut work, who)).collect();
+/// Times the calls of these, four at most, each of which `run` makes so many times.
+pub fn measure<T: Copy>(all: &[T], mut run: impl FnMut(T, u64)) -> Rounds {
+    let times: Vec<u64> = all.iter().map(|&who| calibrate(|times| run(who, times))).collect();
     let mut rounds = vec![[f64::NAN; 4]; ROUNDS];
     for (number, round) in rounds.iter_mut().enumerate() {
-        for turn in 0..many {
-            let who = (turn + number) % many;
-            round[who] = timed(&mut work, ALL[who], times[who]) / times[who] as f64;
+        for turn in 0..all.len() {
+            let who = (turn + number) % all.len();
+            let nanos = timed(|times| run(all[who], times), times[who]);
+            round[who] = nanos / times[who] as f64;
         }
     }
     Rounds(rounds)
 }
 
 /// How many calls fill the time of one round.
-fn calibrate<W: Work>(work: &mut W, who: Who) -> u64 {
+fn calibrate(mut run: impl FnMut(u64)) -> u64 {
     let mut times = 1;
-    while timed(work, who, times) < ROUND.as_nanos() as f64 {
+    while timed(&mut run, times) < ROUND.as_nanos() as f64 {
         times *= 2;
     }
     times
 }
 
 /// The nanoseconds that these calls take together.
-fn timed<W: Work>(work: &mut W, who: Who, times: u64) -> f64 {
+fn timed(mut run: impl FnMut(u64), times: u64) -> f64 {
     let start = Instant::now();
-    match who {
-        Who::Library => work.run(&Product, times),
-        Who::Rust => work.run(&Peer, times),
-        Who::C => work.run(&CPeer, times),
-        Who::Memcpy => work.copy(times),
-    }
+    run(times);
     start.elapsed().as_nanos() as f64
 }
 

@@ -1,7 +1,7 @@
 //! Draws how cost grows, as an SVG of four diagrams with both axes logarithmic.
 
 use crate::growth::{Diagram, Line};
-use crate::measure::Who;
+use crate::work::Who;
 use std::fmt::Write;
 
 /// The size of a diagram's plane, and of the room around it.

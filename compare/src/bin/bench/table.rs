@@ -1,13 +1,20 @@
-//! The table of docs/SPEED.md.
+//! The table of messages in docs/SPEED.md, and how a table is put in its place there.
 
-use crate::measure::{measure, Rounds, Spread, Who, ROUNDS};
-use crate::work::{Asking, Blanking, Reading, Work, Writing};
+use crate::measure::{Rounds, Spread, ROUNDS};
+use crate::work::{measured, Asking, Blanking, Reading, Who, Work, Writing};
 use compare::samples::{samples, Sample};
 use std::fs;
 
-/// The line of a page after which the table stands, and the one before which it ends.
-const BEGIN: &str = "<!-- the table of `make bench` begins -->\n";
-const END: &str = "<!-- the table of `make bench` ends -->\n";
+/// Puts what was timed of something in its place in a page, between two lines that name it.
+pub fn write(page: &str, of: &str, table: &str) -> Result<(), String> {
+    let text = fs::read_to_string(page).map_err(|error| format!("{page}: {error}"))?;
+    let [begin, end] =
+        ["begins", "ends"].map(|what| format!("<!-- {of} of `make bench` {what} -->\n"));
+    let first = text.find(&begin).ok_or(format!("{page} has no line {begin}"))? + begin.len();
+    let last = text[first..].find(&end).ok_or(format!("{page} has no line {end}"))? + first;
+    let text = format!("{}\n{table}\n{}", &text[..first], &text[last..]);
+    fs::write(page, text).map_err(|error| format!("{page}: {error}"))
+}
 
 /// Times every row, prints it, and answers the whole table.
 pub fn table() -> String {
@@ -32,18 +39,9 @@ pub fn table() -> String {
     lines.join("\n") + "\n"
 }
 
-/// Puts the table in its place in a page.
-pub fn write(page: &str, table: &str) -> Result<(), String> {
-    let text = fs::read_to_string(page).map_err(|error| format!("{page}: {error}"))?;
-    let begin = text.find(BEGIN).ok_or(format!("{page} has no line {BEGIN}"))? + BEGIN.len();
-    let end = text[begin..].find(END).ok_or(format!("{page} has no line {END}"))? + begin;
-    let text = format!("{}\n{table}\n{}", &text[..begin], &text[end..]);
-    fs::write(page, text).map_err(|error| format!("{page}: {error}"))
-}
-
 /// The line of the calls on one message.
 fn line<W: Work>(sample: &Sample, work: W) -> String {
-    let rounds = measure(work);
+    let rounds = measured(work);
     let nanos = rounds.nanos(Who::Library).median;
     let cells = [
         format!("{} {}", W::NAME, sample.name),
@@ -64,12 +62,12 @@ fn copies<W: Work>(rounds: &Rounds) -> [String; 3] {
 }
 
 /// A ratio with its quartiles.
-fn shown(Spread { lower, median, upper }: Spread) -> String {
+pub fn shown(Spread { lower, median, upper }: Spread) -> String {
     format!("{median:.2} ({lower:.2} to {upper:.2})")
 }
 
 /// The name of the processor, as far as the system tells it.
-fn processor() -> String {
+pub fn processor() -> String {
     let told = fs::read_to_string("/proc/cpuinfo").unwrap_or_default();
     let name = told.lines().find_map(|line| line.strip_prefix("model name")?.split_once(": "));
     name.map_or("of an unnamed processor".to_owned(), |(_, name)| name.to_owned())

@@ -1,11 +1,43 @@
 //! What is timed: the calls on one message, each a loop that is compiled for each subject. What a call is
 //! lent goes through [`black_box`], so that none is compiled for the lengths of these buffers.
 
+use crate::measure::{measure, Rounds};
+use compare::c_peer::CPeer;
 use compare::peer::State;
+use compare::product::Product;
 use compare::samples::{Sample, IDS};
-use compare::subject::{Opening, Subject, BLANK, READ, VALUE, WRITE};
+use compare::subject::{Opening, Peer, Subject, BLANK, READ, VALUE, WRITE};
 use std::hint::black_box;
 use std::ptr;
+
+/// Who is timed; `memcpy` comes last, as not all calls have it beside them.
+#[derive(Clone, Copy, Debug, PartialEq, Eq)]
+pub enum Who {
+    Library,
+    Rust,
+    C,
+    Memcpy,
+}
+
+impl From<Who> for usize {
+    fn from(who: Who) -> usize {
+        who as usize
+    }
+}
+
+/// All that are timed, in the order of [`Who`].
+pub const ALL: [Who; 4] = [Who::Library, Who::Rust, Who::C, Who::Memcpy];
+
+/// Times the calls; without `memcpy` where it is not worth it.
+pub fn measured<W: Work>(mut work: W) -> Rounds {
+    let many = if W::COPIES { 4 } else { 3 };
+    measure(&ALL[..many], |who, times| match who {
+        Who::Library => work.run(&Product, times),
+        Who::Rust => work.run(&Peer, times),
+        Who::C => work.run(&CPeer, times),
+        Who::Memcpy => work.copy(times),
+    })
+}
 
 /// Calls on one message, with the buffers that are lent to them.
 pub trait Work {
