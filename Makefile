@@ -4,8 +4,8 @@
 # make calls: every public call with its contract and with what is determined: its result, and each buffer. make
 # example: the C example, built for this machine and run. make compare: a million cases of the library against the
 # independent reader in compare/, and as many of the second one, in C, against it. make bench: how fast the three are,
-# side by side, written into docs/SPEED.md and docs/growth.svg. make versus BEFORE=FILE: how fast the library is beside
-# an earlier one, FILE being the libsim0mq.a of another checkout.
+# side by side, and what is built on messages, written into docs/SPEED.md and docs/growth.svg. make versus BEFORE=FILE:
+# how fast the library is beside an earlier one, FILE being the libsim0mq.a of another checkout.
 .PHONY: all command install check test calls bindings example compare bench versus
 
 PEER = cd compare && SIM0MQ_LIB_DIR=$(CURDIR)/target/native CARGO_TARGET_DIR=$(CURDIR)/target/native/compare cargo run --release --offline --quiet --features product

@@ -94,9 +94,8 @@ pub fn table() -> String {
         println!("{line}");
         lines.push(line);
     };
-    for message in [&samples()[0].bytes, &any_bytes(2_000).bytes] {
-        of_recordings(message, &mut add);
-    }
+    of_recordings("77", &samples()[0].bytes, &mut add);
+    of_recordings("2,000", &any_bytes(2_000).bytes, &mut add);
     add(line("reckon 4,096 musters of 32 senders", Reckoning::of(&joined())));
     for command in &commands() {
         add(line(&format!("command {}", command.name), Commanding::of(&command.bytes)));
@@ -107,10 +106,10 @@ pub fn table() -> String {
     lines.join("\n") + "\n"
 }
 
-/// The rows of recordings that have this message as many times as may be.
-fn of_recordings(message: &[u8], add: &mut impl FnMut(String)) {
+/// The rows of recordings that have this message, of so many bytes, as many times as may be.
+fn of_recordings(bytes: &str, message: &[u8], add: &mut impl FnMut(String)) {
     let recording = recording(message);
-    let row = |call: &str| format!("{call} of {} bytes", message.len());
+    let row = |call: &str| format!("{call} of {bytes} bytes");
     add(line(&row("open 4,096 messages"), Opening::of(&recording, message.len())));
     add(line(&row("open with a table 4,096 messages"), OpeningInto::of(&recording, message.len())));
     for (name, k) in [("first", 0), ("middle", 2_048), ("last", 4_095)] {
