@@ -122,9 +122,12 @@ fn of_recordings(bytes: &str, message: &[u8], add: &mut impl FnMut(String)) {
     ));
 }
 
-/// The line of some calls, which both accept.
+/// The line of some calls, which both accept before they are timed and after.
 fn line<W: Work>(name: &str, mut work: W) -> String {
-    assert_eq!((work.run(&Product, 1), work.run(&Peer, 1)), (0, 0), "{name} is accepted");
+    let accepted = |work: &mut W| {
+        assert_eq!((work.run(&Product, 1), work.run(&Peer, 1)), (0, 0), "{name} is accepted");
+    };
+    accepted(&mut work);
     let bytes = work.bytes();
     let rounds = measure(&ALL[..W::MANY], |who, times| match who {
         Who::Library => drop(work.run(&Product, times)),
@@ -132,6 +135,7 @@ fn line<W: Work>(name: &str, mut work: W) -> String {
         Who::Reading => work.read(times),
         Who::Memcpy => work.copy(times),
     });
+    accepted(&mut work);
     let nanos = rounds.nanos(Who::Library).median;
     let copied = |who| if W::MANY > 3 { median(&rounds, who) } else { String::new() };
     let cells = [
