@@ -324,8 +324,8 @@ uint32_t sim0mq_recording_close(uint64_t written, uint64_t messages, uint8_t clo
  * Position, Duration and Time, Angle and Direction, Temperature and AbsoluteTemperature: two relatives, or an absolute
  * and a relative in either order; two absolutes are never added. The manual says which unit type and display code the
  * sum has.
- * Refusals: 17 where one of the two is no double with a mark that reading gives, or its bits are a NaN's, which are "not
- * a number" here as in sim0mq_add_scalar; 24; 25.
+ * Refusals: 17 where one of the two is no double with a mark that reading gives, or its bits are a NaN's, which are
+ * "not a number" here as in sim0mq_add_scalar; 24; 25.
  */
 uint32_t sim0mq_sum(uint8_t kind, uint64_t bits, uint8_t unit, uint16_t currency, uint8_t display, uint8_t kind2,
                     uint64_t bits2, uint8_t unit2, uint16_t currency2, uint8_t display2, uint64_t *answer,

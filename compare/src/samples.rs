@@ -83,7 +83,7 @@ pub fn joined() -> Vec<u8> {
 /// Commands: the one of the most fields, and one of none.
 #[must_use]
 pub fn commands() -> [Sample; 2] {
-    let words = ["m", "1", "", "java", "-jar", "/usr/local/model.jar", "", "/tmp", "/tmp/out"];
+    let words = ["m", "1", "", "java", "-jar", "model.jar", "", "work", "work/out"];
     let text =
         |word: &str| [&[9][..], &(word.len() as u32).to_be_bytes(), word.as_bytes()].concat();
     let fields = words.map(text).into_iter().chain([0, 1, 1].map(|deleted| vec![6, deleted]));

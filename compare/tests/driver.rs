@@ -1,5 +1,8 @@
 //! The driver finds no difference where there is none and finds planted ones.
 
+mod common;
+
+use common::Faulty;
 use compare::c_peer::CPeer;
 use compare::driver::Driver;
 use compare::peer::{State, Value};
@@ -36,28 +39,7 @@ const FAULTS: [Fault; 11] = [
     Fault::ShortAnswer,
 ];
 
-/// The peer with one fault.
-struct Faulty(Fault);
-
-impl Faulty {
-    /// Changes an accepted answer at `place` if this is the fault.
-    fn spoil(&self, fault: Fault, returned: u32, answer: &mut [u64], place: usize) -> u32 {
-        if self.0 == fault && returned == 0 {
-            answer[place] ^= 1;
-        }
-        returned
-    }
-
-    /// Changes the last byte if this is the fault.
-    fn spoil_byte(&self, fault: Fault, returned: u32, out: &mut [u8]) -> u32 {
-        if let (true, 0, Some(byte)) = (self.0 == fault, returned, out.last_mut()) {
-            *byte ^= 1;
-        }
-        returned
-    }
-}
-
-impl Subject for Faulty {
+impl Subject for Faulty<Fault> {
     fn name(&self) -> &'static str {
         "faulty"
     }

@@ -1,6 +1,9 @@
 //! The driver of the parts finds no difference where there is none, finds
 //! planted ones, and its cases reach what there is to reach.
 
+mod common;
+
+use common::Faulty;
 use compare::driver::PartsDriver;
 use compare::generate::{self, Recording, Run};
 use compare::peer::ledger::{self, Ledger};
@@ -63,28 +66,7 @@ const FAULTS: [Fault; 21] = [
     Fault::ShortAnswer,
 ];
 
-/// The peer with one fault.
-struct Faulty(Fault);
-
-impl Faulty {
-    /// Changes an accepted answer at `place` if this is the fault.
-    fn spoil(&self, fault: Fault, returned: u32, answer: &mut [u64], place: usize) -> u32 {
-        if self.0 == fault && returned == 0 {
-            answer[place] ^= 1;
-        }
-        returned
-    }
-
-    /// Changes the last byte if this is the fault.
-    fn spoil_byte(&self, fault: Fault, returned: u32, out: &mut [u8]) -> u32 {
-        if let (true, 0, Some(byte)) = (self.0 == fault, returned, out.last_mut()) {
-            *byte ^= 1;
-        }
-        returned
-    }
-}
-
-impl Parts for Faulty {
+impl Parts for Faulty<Fault> {
     fn name(&self) -> &'static str {
         "faulty"
     }

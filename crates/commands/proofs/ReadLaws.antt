@@ -28,7 +28,6 @@ use Rattle.reading.specs.declared.Answer.{Answer}
 use Rattle.reading.specs.declared.Reading.the-variants.{Accepted, Refused}
 use Rattle.reading.specs.Answers.{answered, foundIn}
 use Rattle.reading.proofs.SaidLaws.{said-fine, said-refused}
-use Rattle.commands_page.specs.Page.{page}
 use Rattle.commands_page.specs.Judging.{noFrame, looks, looksAt, Looks, commandOf, commanded}
 use Rattle.commands_page.proofs.PageLaws.{page-long}
 use Rattle.commands_page.proofs.Places.{accepts-by-places}

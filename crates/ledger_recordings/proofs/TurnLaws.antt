@@ -7,7 +7,6 @@ use native.Mathlib.Omega.{arith}
 use lib.ListN.{length, take, drop}
 use Rattle.sim0mq.specs.Answer as S
 use Rattle.sim0mq.specs.Answer.{fine, refused}
-use Rattle.sim0mq.specs.Header as H
 use Rattle.sim0mq.specs.Message as M
 use Rattle.sim0mq.specs.Message.{limit, noTable, reading}
 use Rattle.sim0mq.specs.declared.Refusal.{Refusal}

@@ -13,7 +13,6 @@ use mir.ValLaws.{toZ-ofZ}
 use Rattle.sim0mq.specs.Answer as S
 use Rattle.sim0mq.specs.Answer.{fine, refused}
 use Rattle.sim0mq.specs.Header as H
-use Rattle.sim0mq.specs.Message as M
 use Rattle.sim0mq.specs.Message.{noTable, reading}
 use Rattle.sim0mq.specs.Table.{placed}
 use Rattle.sim0mq.specs.declared.Judged.the-variants.{Accepted as Judged·Accepted}

@@ -1,9 +1,9 @@
 -- Every refusal of the writer is one of the judges that it goes through: of the ids or of the field, within them, or of
 -- a test of its own, at 0.
 use Prim.Native.Nat.{ℕ, zero, suc, _+_, _≤_, zero-le}
-use mathlib.Core.Path.{_≡_, refl, sym, _∙_, subst}
+use mathlib.Core.Path.{_≡_, refl, sym, _∙_}
 use mathlib.Core.Bool.{Bool, true, false, false≢true, not, _&&_}
-use mathlib.Core.Logic.{_⊎_, inl, inr}
+use mathlib.Core.Logic.{inl, inr}
 use mathlib.Core.List.{List, [], _∷_}
 use lib.Dec.{leb, eqb}
 use lib.IntN.{ℤ}
