@@ -16,10 +16,10 @@ use Rattle.sim0mq.proofs.Answers.{fine_eq, not_fine}
 use Rattle.reading_parts.specs.Kept.{kept_one, kept_all, rows_in}
 use Rattle.reading_payload.specs.Parts.{payload_steps}
 use Rattle.reading_payload.specs.Kept.{kept_of}
-use Rattle.reading_parts.proofs.KeptCases.{rows_within, kept-before, kept_here, kept_full}
-use Rattle.reading_payload.proofs.KeptLaws.{payload-many, front-accepted}
+use Rattle.reading_parts.proofs.KeptCases.{rows_within, kept_before, kept_here, kept_full}
+use Rattle.reading_payload.proofs.KeptLaws.{payload_many, front_accepted}
 use Rattle.reading_front.specs.Front.{front_of}
-use Rattle.reading_front.proofs.FrontCases.{reading-closed, open-within, open-refused, open-accepted}
+use Rattle.reading_front.proofs.FrontCases.{reading_closed, open-within, open-refused, open-accepted}
 use Rattle.asking.specs.Asking.{nth, asked, field_in}
 use Rattle.asking.proofs.AskLaws.{asked_refused, asked_nth, nth_past, nth_finds}
 
@@ -46,7 +46,7 @@ kept_nth k i zero (g ∷ fs) f kept e q =
     ∙ ap (λ (p : ℕ). sets kept p (row_of g)) place
     ∙ ap (λ (x : Field). sets kept 0 (row_of x)) (fine_eq q)
 kept_nth k i (suc j) (g ∷ fs) f kept e q =
-    ap (λ (l : List ℕ). kept_all 1 k (i + 1) fs l) (sym (kept-before 1 k i g kept (omega arith))) ∙ kept_nth k (i + 1) j fs f kept (omega arith) q
+    ap (λ (l : List ℕ). kept_all 1 k (i + 1) fs l) (sym (kept_before 1 k i g kept (omega arith))) ∙ kept_nth k (i + 1) j fs f kept (omega arith) q
 
 -- field k of moved fields is field k, moved
 nth_moved : (b k : ℕ) (fs : List Field) (f : Field) → nth fs k ≡ fine f → nth (map (moved b) fs) k ≡ fine (moved b f)
@@ -62,8 +62,8 @@ row_tells f = refl
 
 -- asking is reading, and then the field
 module _ (s : List ℕ) (k : ℕ) where
-  pub ask-closed : (r p : ℕ) → front_of no_table s ≡ refused r p → refused r p ≡ asked s k
-  ask-closed r p e = sym (asked_refused s k r p (reading-closed no_table s r p e))
+  pub ask_closed : (r p : ℕ) → front_of no_table s ≡ refused r p → refused r p ≡ asked s k
+  ask_closed r p e = sym (asked_refused s k r p (reading_closed no_table s r p e))
 
   module _ (h : Header) (a : front_of no_table s ≡ fine h) (n next : ℕ) (p : h.fields ≡ n) (q : h.next ≡ next) where
     pub ask-refused : (r w : ℕ) → payload_steps s next n ≡ refused r w → refused r w ≡ asked s k
@@ -73,7 +73,7 @@ module _ (s : List ℕ) (k : ℕ) where
       pub ask-none : n ≤ k → refused 16 0 ≡ asked s k
       ask-none l =
           let r = open-accepted no_table s h a n next p q steps e in
-          let many : length (map (moved h.next) r.0) ≡ n = length-map r.0 (moved h.next) ∙ payload-many (drop next s) n r.0 r.1 in
+          let many : length (map (moved h.next) r.0) ≡ n = length-map r.0 (moved h.next) ∙ payload_many (drop next s) n r.0 r.1 in
           sym (asked_nth s k _ r.2 ∙ nth_past (map (moved h.next) r.0) k (omega arith))
 
       -- the row that is kept of it
@@ -82,13 +82,13 @@ module _ (s : List ℕ) (k : ℕ) where
       unfolding kept_of row_size
       ask-found kept row long d l =
           let r = open-accepted no_table s h a n next p q steps e in
-          let many : length r.0 ≡ n = payload-many (drop next s) n r.0 r.1 in
+          let many : length r.0 ≡ n = payload_many (drop next s) n r.0 r.1 in
           let found = nth_finds r.0 k (omega arith) in
           let f = found.0 in
           let one : rows_in (length s) (length kept) ≡ 1 = sym (rows_within (length s) (length kept) (open-within no_table s h a n next p q).0) ∙ ap (λ (x : ℕ). x / row_size) long in
           let kept-is : kept_of s next n k kept ≡ sets kept 0 (row_of (moved next f))
           =
-          ap₂ (λ (m : ℕ) (l : List Field). kept_all m k 0 (map (moved next) l) kept) one (front-accepted (drop next s) n r.0 r.1)
+          ap₂ (λ (m : ℕ) (l : List Field). kept_all m k 0 (map (moved next) l) kept) one (front_accepted (drop next s) n r.0 r.1)
           ∙ kept_nth k 0 k (map (moved next) r.0) (moved next f) kept (omega arith) (nth_moved next k r.0 f found.1) in
           let row_is : row ≡ row_of (moved next f) = d ∙ kept-is ∙ sets_all kept (moved next f) long in
           let answer : asked s k ≡ fine (moved next f)

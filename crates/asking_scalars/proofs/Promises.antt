@@ -12,7 +12,7 @@ use Rattle.asking.proofs.PartLaws.{asked_parts}
 use Rattle.asking_scalars.specs.Scalars.{scalar_of, value}
 use Rattle.asking_scalars.specs.Promises.{ValueAgreesWithAsking, NotANumberExactly, own_bytes, ValueIsItsBytes, ValueGivesBackItsBytes}
 use Rattle.sim0mq_kinds.specs.declared.Scalar.TheVariants.{NotNumber}
-use Rattle.asking_scalars.proofs.AloneLaws.{value-alone}
+use Rattle.asking_scalars.proofs.AloneLaws.{value_alone_lem}
 use Rattle.asking_scalars.proofs.BackLaws.{value-back}
 use Rattle.asking_scalars.proofs.NotNumbers.{nan_only, nan_always}
 use Rattle.asking_scalars.proofs.ReadCases.{read_as}
@@ -51,7 +51,7 @@ value_is_its_bytes s k f q =
     let judged : field l 0 ≡ fine (field_at 0 p) = field_complete p x.is (stands_self l) in
     let code : p.code ≡ f.code = sym (ap (λ (g : Field). g.code) x.says) in
     let first : f.first ≡ f.place + (field_at 0 p).first = ap (λ (g : Field). g.first) x.says ∙ omega arith in
-    rw (own, judged) (value-alone s l f (field_at 0 p) (asked_standing s k f q) x.there code refl first end)
+    rw (own, judged) (value_alone_lem s l f (field_at 0 p) (asked_standing s k f q) x.there code refl first end)
 
 -- the field's code says how its bytes were read, and each way of reading is undone by writing
 pub value_gives_back_its_bytes : ValueGivesBackItsBytes

@@ -24,8 +24,8 @@ module _ (s : List ℕ) (f : Field) (st : Standing s f) where
       q ∙ number_there s f.first n (omega arith) h
 
   -- four bytes are there from the mark's unit type on
-  pub mark-there : (c : ℕ) → f.code ≡ c → counts_of c ≡ 0 → marking_of c ≡ 1 → 4 ≤ width_of c → f.place + 1 + 4 ≤ length s
-  mark-there c e k m w =
+  pub mark_there : (c : ℕ) → f.code ≡ c → counts_of c ≡ 0 → marking_of c ≡ 1 → 4 ≤ width_of c → f.place + 1 + 4 ≤ length s
+  mark_there c e k m w =
       let size : f.size ≡ width_of c = st.sized (ap counts_of e ∙ k) ∙ ap width_of e in
       let within = st.within in
       let marked = st.marked (ap counts_of e ∙ k) (ap marking_of e ∙ m) in
@@ -61,14 +61,14 @@ no_scalar s f h a b c d e =
 
 -- marks with a currency
 module _ (s : List ℕ) (at x : ℕ) (there : at + 4 ≤ length s) (is : x ≡ number_at s (at + 1) 2) where
-  currency-is : x ≡ big s (at + 1) 2
-  currency-is = is ∙ number_there s (at + 1) 2 (omega arith) (omega arith)
+  currency_is : x ≡ big s (at + 1) 2
+  currency_is = is ∙ number_there s (at + 1) 2 (omega arith) (omega arith)
 
-  pub mark-money : byte s at ≡ 100 → ◌≡◌ {A = Mark} (record { unit = byte s at; currency = x; display = 0 }) (mark_at s at)
+  pub mark_money : byte s at ≡ 100 → ◌≡◌ {A = Mark} (record { unit = byte s at; currency = x; display = 0 }) (mark_at s at)
   unfolding mark_of
-  mark-money e = rw currency-is (sym (ap (mark_of s at) (kind_money _ e)))
+  mark_money e = rw currency_is (sym (ap (mark_of s at) (kind_money _ e)))
 
-  pub mark-per : 100 < byte s at → byte s at ≤ 106
+  pub mark_per : 100 < byte s at → byte s at ≤ 106
       → ◌≡◌ {A = Mark} (record { unit = byte s at; currency = x; display = byte s (at + 3) }) (mark_at s at)
   unfolding mark_of
-  mark-per h k = rw currency-is (sym (ap (mark_of s at) (kind_per _ h k)))
+  mark_per h k = rw currency_is (sym (ap (mark_of s at) (kind_per _ h k)))

@@ -24,9 +24,9 @@ use Rattle.reading_payload.specs.Parts.{payload_steps}
 use Rattle.reading_payload.specs.Kept.{kept_of}
 use Rattle.reading_parts.proofs.PartCases.{field_goes}
 use Rattle.reading_payload.proofs.PayloadCases.{at-stopped, at-taken}
-use Rattle.reading_payload.proofs.KeptLaws.{payload-many, taken_more, taken_none, kept_rows}
+use Rattle.reading_payload.proofs.KeptLaws.{payload_many, taken_more, taken_none, kept_rows}
 use Rattle.reading_front.specs.Front.{front_of}
-use Rattle.reading_front.proofs.FrontCases.{reading-closed, open-within, open-reading}
+use Rattle.reading_front.proofs.FrontCases.{reading_closed, open-within, open-reading}
 use Rattle.blanking.specs.Blanking.{copying, taken, fields_of, Copyable, Blankable}
 use Rattle.blanking.proofs.TurnLaws.{placed_past, placed_whole, placed_turn}
 
@@ -77,7 +77,7 @@ unfolding fields_of payload row_size
 left_start s next n kept out b =
     let fs = taken (payload (drop next s) n) in
     let zero_more : next + 0 ≡ next = omega arith in
-    let count : length (map (moved next) fs) ≡ n = length-map fs (moved next) ∙ payload-many (drop next s) n fs b.accepted in
+    let count : length (map (moved next) fs) ≡ n = length-map fs (moved next) ∙ payload_many (drop next s) n fs b.accepted in
     record {
       fields = map (moved next) fs;
       others = b.others;
@@ -108,10 +108,10 @@ module _ (s kept all out : List ℕ) (n at i : ℕ) where
         omega (arith, length-drop (row_size * i) kept),
       )
 
-  pub left-row : Left s kept all out n at i → i < n
+  pub left_row : Left s kept all out n at i → i < n
       → (at ≤ get_or kept (row_size * i + 2) 0) × (get_or kept (row_size * i + 2) 0 + get_or kept (row_size * i + 3) 0 ≤ length s) × (row_size * i + row_size ≤ length kept)
   unfolding rows row_size
-  left-row l h = go l.fields l.chained l.rowed l.many
+  left_row l h = go l.fields l.chained l.rowed l.many
     where
       go : (fs : List Field) → Chained s at fs → drop (row_size * i) kept ≡ rows fs ++ l.others → length fs + i ≡ n
           → (at ≤ get_or kept (row_size * i + 2) 0) × (get_or kept (row_size * i + 2) 0 + get_or kept (row_size * i + 3) 0 ≤ length s) × (row_size * i + row_size ≤ length kept)
@@ -124,10 +124,10 @@ module _ (s kept all out : List ℕ) (n at i : ℕ) where
           (omega arith, omega arith, omega arith)
 
   -- with the numbers that the code has of it
-  pub left-stands : Left s kept all out n at i → i < n → (first size : ℕ) → first ≡ get_or kept (row_size * i + 2) 0 → size ≡ get_or kept (row_size * i + 3) 0
+  pub left_stands : Left s kept all out n at i → i < n → (first size : ℕ) → first ≡ get_or kept (row_size * i + 2) 0 → size ≡ get_or kept (row_size * i + 3) 0
       → (at ≤ first) × (first + size ≤ length s)
-  left-stands l h first size p q =
-      let r = left-row l h in
+  left_stands l h first size p q =
+      let r = left_row l h in
       let before = r.0 in
       let end = r.1 in
       (omega arith, omega arith)
@@ -162,21 +162,21 @@ module _ (s kept all out : List ℕ) (n at i : ℕ) where
           }
 
   -- what is put before a field's values ends where they begin
-  part-ends : (first : ℕ) → at ≤ first → first ≤ length s → at + length (take (first - at) (drop at s)) ≡ first
-  part-ends first h k = omega (arith, length-take (first - at) (drop at s), length-drop at s)
+  part_ends : (first : ℕ) → at ≤ first → first ≤ length s → at + length (take (first - at) (drop at s)) ≡ first
+  part_ends first h k = omega (arith, length-take (first - at) (drop at s), length-drop at s)
 
   -- a turn that puts and clears at once
-  pub left-renewed : Left s kept all out n at i → i < n → (first size : ℕ) (next : List ℕ)
+  pub left_renewed : Left s kept all out n at i → i < n → (first size : ℕ) (next : List ℕ)
       → first ≡ get_or kept (row_size * i + 2) 0 → size ≡ get_or kept (row_size * i + 3) 0
       → next ≡ cleared_in (put_in out at (take (first - at) (drop at s))) (at + length (take (first - at) (drop at s))) size → length next ≡ length out
       → Left s kept all next n (first + size) (i + 1)
-  left-renewed l h first size next p q z same =
-      let stands = left-stands l h first size p q in
+  left_renewed l h first size next p q z same =
+      let stands = left_stands l h first size p q in
       let before = stands.0 in
       let end = stands.1 in
       let copied = put_in out at (take (first - at) (drop at s)) in
       left_turn l h first size copied next p q refl
-      (z ∙ ap (λ (k : ℕ). cleared_in copied k size) (part-ends first (omega arith) (omega arith))) same
+      (z ∙ ap (λ (k : ℕ). cleared_in copied k size) (part_ends first (omega arith) (omega arith))) same
 
   -- after the last turn nothing is left, neither a field nor a byte
   pub left_end : Left s kept all out n at i → n ≤ i → out ≡ all
@@ -258,9 +258,9 @@ module _ (room : ℕ) (s : List ℕ) (next n : ℕ) where
 
 -- blanking is what stands before the payload, and then that copy
 module _ (room : ℕ) (s : List ℕ) where
-  pub blank-closed : (k p : ℕ) → front_of no_table s ≡ refused k p → blanking room s ≡ refused k p
+  pub blank_closed : (k p : ℕ) → front_of no_table s ≡ refused k p → blanking room s ≡ refused k p
   unfolding blanking
-  blank-closed k p e = simp (reading-closed no_table s k p e)
+  blank_closed k p e = simp (reading_closed no_table s k p e)
 
   module _ (h : Header) (a : front_of no_table s ≡ fine h) (n next : ℕ) (p : h.fields ≡ n) (q : h.next ≡ next) where
     pub blank-copyable : Copyable s next n (most_fields * row_size)

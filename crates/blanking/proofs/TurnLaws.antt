@@ -9,16 +9,16 @@ use lib.ListN.{length, take, drop, replicate, length-append, length-drop, length
 use lib.Seq.{length-take-le, take_at, drop_at, drop-drop}
 use Rattle.sim0mq.specs.Table.{stored, placed}
 use Rattle.sim0mq.specs.Blank.{zeroed}
-use Rattle.sim0mq.proofs.PlaceLaws.{placed-nothing, placed-length, placed_on}
+use Rattle.sim0mq.proofs.PlaceLaws.{placed_nothing, placed_length, placed_on}
 use Rattle.sim0mq_buffers.specs.Placing.{put_in, cleared_in}
-use Rattle.sim0mq_buffers.proofs.PlaceLaws.{put_fits, clear-fits}
+use Rattle.sim0mq_buffers.proofs.PlaceLaws.{put_fits, clear_fits}
 
 module _ (out : List ℕ) (at : ℕ) where
   -- a text over the front of another, as long as that front
-  placed-over : (a b rest : List ℕ) → length a ≡ length b → at ≤ length out
+  placed_over : (a b rest : List ℕ) → length a ≡ length b → at ≤ length out
       → placed (placed out at (a ++ rest)) at b ≡ placed out at (b ++ rest)
   unfolding placed
-  placed-over a b rest e h =
+  placed_over a b rest e h =
       let tail = drop (at + length (a ++ rest)) out in
       let whole = take at out ++ (a ++ rest ++ tail) in
       let before : length (take at out) ≡ at = length-take-le at out h in
@@ -34,13 +34,13 @@ module _ (out : List ℕ) (at : ℕ) where
       (sym (append_assoc b rest tail) ∙ ap (λ (k : ℕ). b ++ rest ++ drop k out) same))
 
   -- zeros are a text
-  zeroed-placed : (n : ℕ) → zeroed out at n ≡ placed out at (replicate n 0)
+  zeroed_placed : (n : ℕ) → zeroed out at n ≡ placed out at (replicate n 0)
   unfolding zeroed placed
-  zeroed-placed n = ap (λ (k : ℕ). take at out ++ (replicate n 0 ++ drop (at + k) out)) (sym (length-replicate {A = ℕ} n 0))
+  zeroed_placed n = ap (λ (k : ℕ). take at out ++ (replicate n 0 ++ drop (at + k) out)) (sym (length-replicate {A = ℕ} n 0))
 
 -- no byte is left to be placed
 pub placed_past : (out s : List ℕ) (p at : ℕ) → length s ≤ at → placed out p (drop at s) ≡ out
-placed_past out s p at h = ap (placed out p) (drop_of_length-le s {i = at} h) ∙ sym (placed-nothing out p)
+placed_past out s p at h = ap (placed out p) (drop_of_length-le s {i = at} h) ∙ sym (placed_nothing out p)
 
 -- the front of a message, which is put, and then its rest
 pub placed_whole : (out s : List ℕ) (next : ℕ) → next ≤ length s → length s ≤ length out
@@ -68,8 +68,8 @@ placed_turn out s at first size copied next h k room p q =
     let rest-long : length rest ≡ length s - (first + size) = length-drop (first + size) s in
     let head-long : length head ≡ first - at = length-take-le (first - at) (drop at s) (omega (arith, length-drop at s)) in
     let c : copied ≡ placed out at head = p ∙ put_fits out at head (omega arith) in
-    let long : length copied ≡ length out = ap length c ∙ placed-length out at head (omega arith) in
-    let z : next ≡ zeroed copied first size = q ∙ clear-fits copied first size (omega arith) in
+    let long : length copied ≡ length out = ap length c ∙ placed_length out at head (omega arith) in
+    let z : next ≡ zeroed copied first size = q ∙ clear_fits copied first size (omega arith) in
     let place : at + (first - at) ≡ first = omega arith in
     let split : drop at s ≡ head ++ drop first s
     = sym (take-append-drop (first - at) (drop at s)) ∙ ap (λ (l : List ℕ). head ++ l) (drop-drop (first - at) at s ∙ ap (λ (i : ℕ). drop i s) place) in
@@ -80,7 +80,7 @@ placed_turn out s at first size copied next h k room p q =
     ∙ sym (placed_on out at head (drop first s) first (omega arith) (omega (arith, length-drop first s)))
     ∙ ap₂ (λ (o l : List ℕ). placed o first l) (sym c) parts in
     ap (λ (o : List ℕ). zeroed o first size) whole
-    ∙ zeroed-placed (placed copied first (values ++ rest)) first size
-    ∙ placed-over copied first values zeros rest (values_long ∙ sym zeros_long) (omega arith)
+    ∙ zeroed_placed (placed copied first (values ++ rest)) first size
+    ∙ placed_over copied first values zeros rest (values_long ∙ sym zeros_long) (omega arith)
     ∙ sym (placed_on copied first zeros rest (first + size) (omega arith) (omega arith))
-    ∙ ap (λ (o : List ℕ). placed o (first + size) rest) (sym (z ∙ zeroed-placed copied first size))
+    ∙ ap (λ (o : List ℕ). placed o (first + size) rest) (sym (z ∙ zeroed_placed copied first size))

@@ -9,10 +9,10 @@ use lib.Seq.{take_all, take-suc, length-take-le}
 use lib.IntN.{ℤ}
 use mir.Val.{bool_byte}
 use Rattle.sim0mq.specs.Table.{placed}
-use Rattle.sim0mq.proofs.PlaceLaws.{placed-nothing, placed-length, placed_on}
+use Rattle.sim0mq.proofs.PlaceLaws.{placed_nothing, placed_length, placed_on}
 use Rattle.sim0mq_signed.specs.Signed.{bits_of}
 use Rattle.sim0mq_buffers.specs.Placing.{put_in}
-use Rattle.sim0mq_buffers.proofs.PlaceLaws.{placed-byte, put_fits, put-over}
+use Rattle.sim0mq_buffers.proofs.PlaceLaws.{placed_byte, put_fits, put_over}
 use Rattle.sim0mq_numbers.specs.Numbers.{number_at}
 use Rattle.writing_puts.specs.Signed.{bits_up_to}
 use Rattle.writing_puts.proofs.SignedLaws.{bits_of_lem}
@@ -37,26 +37,26 @@ pub record Rowing (row old new : List ℕ) (at k : ℕ) : Type 0 where
   pub same : new ≡ placed old at (take k row)
 
 pub rowing_start : (row old : List ℕ) (at : ℕ) → Rowing row old old at 0
-rowing_start row old at = record { few = omega arith; long = refl; same = placed-nothing old at }
+rowing_start row old at = record { few = omega arith; long = refl; same = placed_nothing old at }
 
 module _ {row old new : List ℕ} {at k : ℕ} (r : Rowing row old new at k) (room : at + length row ≤ length old) where
-  pub rowing-turn : (p : ℕ) → p ≡ at + k → k < length row → Rowing row old (set new p (get_or row k 0)) at (k + 1)
-  rowing-turn p e h =
+  pub rowing_turn : (p : ℕ) → p ≡ at + k → k < length row → Rowing row old (set new p (get_or row k 0)) at (k + 1)
+  rowing_turn p e h =
       let x : ℕ = get_or row k 0 in
       let so : length (take k row) ≡ k = length-take-le k row (omega arith) in
       record {
         few = omega arith;
         long = length-set new p x ∙ r.long;
         same =
-            placed-byte new p x (omega (arith, r.long))
+            placed_byte new p x (omega (arith, r.long))
             ∙ ap (λ (l : List ℕ). placed l p (x ∷ [])) r.same
             ∙ placed_on old at (take k row) (x ∷ []) p (omega arith) (omega arith)
             ∙ ap (placed old at) (sym (take-suc row k 0 (omega arith)))
             ∙ ap (λ (j : ℕ). placed old at (take j row)) (sym (add-one k));
       }
 
-  pub rowing-end : length row ≤ k → new ≡ placed old at row
-  rowing-end h = r.same ∙ ap (placed old at) (take_all k row (omega arith))
+  pub rowing_end : length row ≤ k → new ≡ placed old at row
+  rowing_end h = r.same ∙ ap (placed old at) (take_all k row (omega arith))
 
 -- Eight numbers for each place.
 numbers_eight : (e : Sender) → length (sender_numbers e) ≡ 8
@@ -85,11 +85,11 @@ putting_start b old = record { few = omega arith; long = refl; same = refl }
 
 -- Where there is no room, nothing is put.
 pub putting_short : (b : List Sender) (old : List ℕ) → length old < 256 → old ≡ put_in old 0 (book_numbers b)
-putting_short b old h = put-over old 0 (book_numbers b) (omega (arith, numbers_long b 32 0))
+putting_short b old h = put_over old 0 (book_numbers b) (omega (arith, numbers_long b 32 0))
 
 module _ {b : List Sender} {old new : List ℕ} {i : ℕ} (r : Putting b old new i) (room : 256 ≤ length old) where
-  pub putting-turn : (next row : List ℕ) → i < book_places → row ≡ sender_numbers (entry_in b i) → next ≡ placed new (place_size * i) row → Putting b old next (i + 1)
-  putting-turn next row h e f =
+  pub putting_turn : (next row : List ℕ) → i < book_places → row ≡ sender_numbers (entry_in b i) → next ≡ placed new (place_size * i) row → Putting b old next (i + 1)
+  putting_turn next row h e f =
       let one : List ℕ = sender_numbers (entry_in b i) in
       let rest : List ℕ = numbers_from b (suc i) (book_places - suc i) in
       let g : next ≡ placed new (place_size * i) one = f ∙ ap (placed new (place_size * i)) e in
@@ -98,7 +98,7 @@ module _ {b : List Sender} {old new : List ℕ} {i : ℕ} (r : Putting b old new
       let p : place_size * suc i ≡ place_size * i + length one = omega arith in
       record {
         few = omega arith;
-        long = ap length g ∙ placed-length new (place_size * i) one (omega (arith, r.long)) ∙ r.long;
+        long = ap length g ∙ placed_length new (place_size * i) one (omega (arith, r.long)) ∙ r.long;
         same =
             r.same
             ∙ ap (placed new (place_size * i)) (numbers_turn b i h)
@@ -107,11 +107,11 @@ module _ {b : List Sender} {old new : List ℕ} {i : ℕ} (r : Putting b old new
             ∙ ap (λ (k : ℕ). placed next (place_size * k) (numbers_from b k (book_places - k))) (sym (add-one i));
       }
 
-  pub putting-end : book_places ≤ i → new ≡ put_in old 0 (book_numbers b)
+  pub putting_end : book_places ≤ i → new ≡ put_in old 0 (book_numbers b)
   unfolding numbers_from
-  putting-end h =
+  putting_end h =
       let e : i ≡ 32 = omega (arith, r.few) in
-      placed-nothing new (place_size * 32)
+      placed_nothing new (place_size * 32)
       ∙ ap (λ (k : ℕ). placed new (place_size * k) (numbers_from b k (32 - k))) (sym e)
       ∙ sym r.same
       ∙ sym (put_fits old 0 (book_numbers b) (omega (arith, numbers_long b 32 0)))

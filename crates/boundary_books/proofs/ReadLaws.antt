@@ -11,7 +11,7 @@ use lib.IntN.{ℤ}
 use lib.ListN.{length, get_or, set, take, replicate, length-append, length-set}
 use lib.Seq.{take_all, take-suc-set, append_snoc}
 use Rattle.sim0mq.specs.Table.{placed}
-use Rattle.sim0mq.proofs.PlaceLaws.{placed-length, placed_on}
+use Rattle.sim0mq.proofs.PlaceLaws.{placed_length, placed_on}
 use Rattle.sim0mq_numbers.specs.Bytes.{big_bytes}
 use Rattle.sim0mq_buffers.specs.Placing.{put_in}
 use Rattle.sim0mq_buffers.proofs.PlaceLaws.{front_stands}
@@ -26,14 +26,14 @@ use Rattle.boundary_books.specs.Books.{place_size, id_bytes_of, sender_at, place
 -- A text that is as long as the buffer takes its place.
 whole : (out text : List ℕ) → length text ≡ length out → placed out 0 text ≡ text
 whole out text e =
-    sym (take_all (length text) (placed out 0 text) (omega (arith, placed-length out 0 text (omega arith))))
+    sym (take_all (length text) (placed out 0 text) (omega (arith, placed_length out 0 text (omega arith))))
     ∙ front_stands out text
 
 -- A number of eight bytes after the text before it.
 next : (zeros text x y : List ℕ) (at n : ℕ) → at ≡ length text → at + 8 ≤ length zeros → x ≡ placed zeros 0 text
     → y ≡ put_in x at (big_bytes 8 n) → y ≡ placed zeros 0 (text ++ big_bytes 8 n)
 next zeros text x y at n here room e h =
-    let long : length x ≡ length zeros = ap length e ∙ placed-length zeros 0 text (omega arith) in
+    let long : length x ≡ length zeros = ap length e ∙ placed_length zeros 0 text (omega arith) in
     h
     ∙ big_fits x at 8 n (omega arith)
     ∙ ap (λ (l : List ℕ). placed l at (big_bytes 8 n)) e
@@ -93,8 +93,8 @@ left_turn l i h =
     ap (places_from l i) e
 
 module _ {l : List ℕ} {places : List Sender} {i : ℕ} (r : Reading l places i) where
-  pub reading-turn : (e : Sender) → i < book_places → e ≡ sender_at l (place_size * i) → Reading l (set places i e) (i + 1)
-  reading-turn e h s =
+  pub reading_turn : (e : Sender) → i < book_places → e ≡ sender_at l (place_size * i) → Reading l (set places i e) (i + 1)
+  reading_turn e h s =
       record {
         few = omega arith;
         long = length-set places i e ∙ r.long;
@@ -106,9 +106,9 @@ module _ {l : List ℕ} {places : List Sender} {i : ℕ} (r : Reading l places i
             ∙ ap (λ (k : ℕ). take k (set places i e) ++ places_from l k (book_places - k)) (sym (add-one i));
       }
 
-  pub reading-end : book_places ≤ i → ◌≡◌ {A = Book} (record { senders = places }) (book_of l)
+  pub reading_end : book_places ≤ i → ◌≡◌ {A = Book} (record { senders = places }) (book_of l)
   unfolding places_from
-  reading-end h =
+  reading_end h =
       let e : i ≡ 32 = omega (arith, r.few) in
       let all : places_from l 0 book_places ≡ places
       = r.same

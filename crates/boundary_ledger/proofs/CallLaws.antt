@@ -67,14 +67,14 @@ accepted_by d l decks book (refused k p) i h f g = absurd (not_fine (ap judged h
 
 module _ (d l s : List ℕ) (room : deck_count ≤ length d) (place : book_size ≤ length l) (m : Mustered)
     (e : m ≡ after_mustering (ledger_of d) (book_of l) (mustering (ledger_of d).heads (book_of l).senders s)) where
-  pub muster-refused : (r : Refusal) → m.said ≡ Refused r → Left d l (Refused r) d l (mustering_in d l s)
-  muster-refused r h =
+  pub muster_refused : (r : Refusal) → m.said ≡ Refused r → Left d l (Refused r) d l (mustering_in d l s)
+  muster_refused r h =
       rw (muster_room d l s room place)
       (refused_by d l (mustering (ledger_of d).heads (book_of l).senders s) r (sym (ap (λ (x : Mustered). x.said) e) ∙ h))
 
-  pub muster-accepted : (i : ℕ) (decks book : List ℕ) → m.said ≡ Accepted i → decks ≡ stored d m.ledger.heads
+  pub muster_accepted : (i : ℕ) (decks book : List ℕ) → m.said ≡ Accepted i → decks ≡ stored d m.ledger.heads
       → book ≡ put_in l 0 (book_numbers m.book.senders) → Left d l (Accepted i) decks book (mustering_in d l s)
-  muster-accepted i decks book h f g =
+  muster_accepted i decks book h f g =
       rw (muster_room d l s room place)
       (accepted_by d l decks book (mustering (ledger_of d).heads (book_of l).senders s) i (sym (ap (λ (x : Mustered). x.said) e) ∙ h)
       (f ∙ ap (λ (x : Mustered). stored d x.ledger.heads) e)

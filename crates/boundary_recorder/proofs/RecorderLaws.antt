@@ -32,18 +32,18 @@ recorded_accepted said w n e =
 
 -- The call of a state is that of the state which its numbers tell.
 module _ (w v : Recorder) (e : w ≡ v) where
-  pub added-as : (room : ℕ) (m : List ℕ) (r : Recorded) → r ≡ after_adding w (adding newest w room m) → recorded_numbers r ≡ add_numbers v room m
+  pub added_as : (room : ℕ) (m : List ℕ) (r : Recorded) → r ≡ after_adding w (adding newest w room m) → recorded_numbers r ≡ add_numbers v room m
   unfolding add_numbers
-  added-as room m r h = ap recorded_numbers h ∙ ap (λ (x : Recorder). recorded_numbers (after_adding x (adding newest x room m))) e
+  added_as room m r h = ap recorded_numbers h ∙ ap (λ (x : Recorder). recorded_numbers (after_adding x (adding newest x room m))) e
 
-  pub added-in : (m out out₁ : List ℕ) → out₁ ≡ buffer_after out w.written (adding newest w (length out) m) → out₁ ≡ added_in v out m
+  pub added_in_lem : (m out out₁ : List ℕ) → out₁ ≡ buffer_after out w.written (adding newest w (length out) m) → out₁ ≡ added_in v out m
   unfolding added_in
-  added-in m out out₁ h = h ∙ ap (λ (x : Recorder). buffer_after out x.written (adding newest x (length out) m)) e
+  added_in_lem m out out₁ h = h ∙ ap (λ (x : Recorder). buffer_after out x.written (adding newest x (length out) m)) e
 
-  pub closed-as : (out : List ℕ) (r : Recorded) → r ≡ after_closing w (closing newest w out) → recorded_numbers r ≡ close_numbers v out
+  pub closed_as : (out : List ℕ) (r : Recorded) → r ≡ after_closing w (closing newest w out) → recorded_numbers r ≡ close_numbers v out
   unfolding close_numbers
-  closed-as out r h = ap recorded_numbers h ∙ ap (λ (x : Recorder). recorded_numbers (after_closing x (closing newest x out))) e
+  closed_as out r h = ap recorded_numbers h ∙ ap (λ (x : Recorder). recorded_numbers (after_closing x (closing newest x out))) e
 
-  pub closed-in : (out out₁ : List ℕ) → out₁ ≡ buffer_after out w.written (closing newest w out) → out₁ ≡ closed_in v out
+  pub closed_in_lem : (out out₁ : List ℕ) → out₁ ≡ buffer_after out w.written (closing newest w out) → out₁ ≡ closed_in v out
   unfolding closed_in
-  closed-in out out₁ h = h ∙ ap (λ (x : Recorder). buffer_after out x.written (closing newest x out)) e
+  closed_in_lem out out₁ h = h ∙ ap (λ (x : Recorder). buffer_after out x.written (closing newest x out)) e

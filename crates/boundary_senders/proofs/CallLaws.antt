@@ -53,13 +53,13 @@ accepted_by l out (fine e) i h g = (sym (ap judged h), g)
 accepted_by l out (refused k p) i h g = absurd (not_fine (ap judged h))
 
 module _ (l s : List ℕ) (room : book_size ≤ length l) (t : Taken) (e : t ≡ after_taking (book_of l) (taking (book_of l).senders s)) where
-  pub take-refused : (r : Refusal) → t.said ≡ Refused r → (judged (Refused r) ≡ place_in (taking_in l s)) × (l ≡ taken_in l (taking_in l s))
-  take-refused r h =
+  pub take_refused : (r : Refusal) → t.said ≡ Refused r → (judged (Refused r) ≡ place_in (taking_in l s)) × (l ≡ taken_in l (taking_in l s))
+  take_refused r h =
       rw (take_room l s room) (refused_by l (taking (book_of l).senders s) r (sym (ap (λ (x : Taken). x.said) e) ∙ h))
 
-  pub take-accepted : (i : ℕ) (out : List ℕ) → t.said ≡ Accepted i → out ≡ put_in l 0 (book_numbers t.book.senders)
+  pub take_accepted : (i : ℕ) (out : List ℕ) → t.said ≡ Accepted i → out ≡ put_in l 0 (book_numbers t.book.senders)
       → (judged (Accepted i) ≡ place_in (taking_in l s)) × (out ≡ taken_in l (taking_in l s))
-  take-accepted i out h g =
+  take_accepted i out h g =
       rw (take_room l s room)
       (accepted_by l out (taking (book_of l).senders s) i (sym (ap (λ (x : Taken). x.said) e) ∙ h)
       (g ∙ ap (λ (x : Taken). put_in l 0 (book_numbers x.book.senders)) e))

@@ -14,17 +14,17 @@ use Rattle.writing.specs.declared.Wrote.{Wrote}
 
 -- The call of a state is that of the state which its numbers tell, and so with what is given to be added.
 module _ (w v : Writer) (e : w ≡ v) where
-  pub closed-as : (r : Wrote) → r ≡ after_closing w (closing w) → wrote_numbers r ≡ close_numbers v
+  pub closed_as : (r : Wrote) → r ≡ after_closing w (closing w) → wrote_numbers r ≡ close_numbers v
   unfolding close_numbers
-  closed-as r h = ap wrote_numbers h ∙ ap (λ (x : Writer). wrote_numbers (after_closing x (closing x))) e
+  closed_as r h = ap wrote_numbers h ∙ ap (λ (x : Writer). wrote_numbers (after_closing x (closing x))) e
 
-  pub added-as : (g k : Given) → g ≡ k → (room : ℕ) (r : Wrote) → r ≡ after_adding w (adding w room g) → wrote_numbers r ≡ add_numbers v room k
+  pub added_as : (g k : Given) → g ≡ k → (room : ℕ) (r : Wrote) → r ≡ after_adding w (adding w room g) → wrote_numbers r ≡ add_numbers v room k
   unfolding add_numbers
-  added-as g k f room r h = ap wrote_numbers h ∙ rw (e, f)
+  added_as g k f room r h = ap wrote_numbers h ∙ rw (e, f)
 
-  pub buffer-as : (g k : Given) → g ≡ k → (out out₁ : List ℕ) → out₁ ≡ buffer_after out w.written (adding w (length out) g) → out₁ ≡ added_in v out k
+  pub buffer_as : (g k : Given) → g ≡ k → (out out₁ : List ℕ) → out₁ ≡ buffer_after out w.written (adding w (length out) g) → out₁ ≡ added_in v out k
   unfolding added_in
-  buffer-as g k f out out₁ h = h ∙ rw (e, f)
+  buffer_as g k f out out₁ h = h ∙ rw (e, f)
 
 -- The opening that is asked for, whose number and type of count the code has in other words.
 module _ (ids : List ℕ) (y z : ℤ) (status fields : ℕ) (k l : CountType) (e : y ≡ z) (f : k ≡ l) where
@@ -36,7 +36,7 @@ module _ (ids : List ℕ) (y z : ℤ) (status fields : ℕ) (k l : CountType) (e
   unfolding open_numbers
   opened_as room r h = ap wrote_numbers h ∙ ap (λ (o : Opening). wrote_numbers (after_opening o (opening o room))) same
 
-  pub header-as : (out out₁ : List ℕ) → out₁ ≡ buffer_after out 0 (opening (asks_for ids y status fields k) (length out))
+  pub header_as : (out out₁ : List ℕ) → out₁ ≡ buffer_after out 0 (opening (asks_for ids y status fields k) (length out))
       → out₁ ≡ opened_in (asks_for ids z status fields l) out
   unfolding opened_in
-  header-as out out₁ h = h ∙ ap (λ (o : Opening). buffer_after out 0 (opening o (length out))) same
+  header_as out out₁ h = h ∙ ap (λ (o : Opening). buffer_after out 0 (opening o (length out))) same

@@ -22,31 +22,31 @@ byte_past s i h = sym (get_or-eq_default s 0 {n = i} h)
 
 -- a word: another length, another byte, or the word
 module _ (s : List ℕ) (at : ℕ) (w : List ℕ) where
-  pub word-long : (size : ℕ) → (size ≡ length w → ⊥) → false ≡ is_word s at size w
+  pub word_long : (size : ℕ) → (size ≡ length w → ⊥) → false ≡ is_word s at size w
   unfolding is_word
-  word-long size h = simp (ne_eqb size (length w) h)
+  word_long size h = simp (ne_eqb size (length w) h)
 
-  pub word-as : (size : ℕ) → size ≡ length w → is_word s at size w ≡ stands_at s at w
+  pub word_as : (size : ℕ) → size ≡ length w → is_word s at size w ≡ stands_at s at w
   unfolding is_word
-  word-as size h = simp (eq-eqb size (length w) h)
+  word_as size h = simp (eq-eqb size (length w) h)
 
   here : (i : ℕ) → i < length w → stands_at s (at + i) (drop i w) ≡ stands_at s (at + i) (get_or w i 0 ∷ drop (i + 1) w)
   here i h = rw (add-one i, drop-cons w i 0 h)
 
-  pub stands-turn : (i : ℕ) → i < length w → byte s (at + i) ≡ get_or w i 0 → stands_at s (at + i) (drop i w) ≡ stands_at s (at + (i + 1)) (drop (i + 1) w)
+  pub stands_turn : (i : ℕ) → i < length w → byte s (at + i) ≡ get_or w i 0 → stands_at s (at + i) (drop i w) ≡ stands_at s (at + (i + 1)) (drop (i + 1) w)
   unfolding stands_at
-  stands-turn i h e = let q : at + i + 1 ≡ at + (i + 1) = omega arith in here i h ∙ simp (eq-eqb (byte s (at + i)) (get_or w i 0) e, q)
+  stands_turn i h e = let q : at + i + 1 ≡ at + (i + 1) = omega arith in here i h ∙ simp (eq-eqb (byte s (at + i)) (get_or w i 0) e, q)
 
-  pub stands-stop : (i : ℕ) → i < length w → (byte s (at + i) ≡ get_or w i 0 → ⊥) → stands_at s (at + i) (drop i w) ≡ false
+  pub stands_stop : (i : ℕ) → i < length w → (byte s (at + i) ≡ get_or w i 0 → ⊥) → stands_at s (at + i) (drop i w) ≡ false
   unfolding stands_at
-  stands-stop i h e = here i h ∙ simp (ne_eqb (byte s (at + i)) (get_or w i 0) e)
+  stands_stop i h e = here i h ∙ simp (ne_eqb (byte s (at + i)) (get_or w i 0) e)
 
-  pub stands-end : (i : ℕ) → length w ≤ i → stands_at s (at + i) (drop i w) ≡ true
+  pub stands_end : (i : ℕ) → length w ≤ i → stands_at s (at + i) (drop i w) ≡ true
   unfolding stands_at
-  stands-end i h = rw (drop_of_length-le w h)
+  stands_end i h = rw (drop_of_length-le w h)
 
-  pub stands-start : stands_at s at w ≡ stands_at s (at + 0) (drop 0 w)
-  stands-start = let q : at ≡ at + 0 = omega arith in rw (← q)
+  pub stands_start : stands_at s at w ≡ stands_at s (at + 0) (drop 0 w)
+  stands_start = let q : at ≡ at + 0 = omega arith in rw (← q)
 
 -- codes
 module _ (w c u : ℕ) where
@@ -54,30 +54,30 @@ module _ (w c u : ℕ) where
   unfolding code_taken
   one_taken k r e = sym (ap (λ (x : Want). code_taken x.codes c u) e ∙ or_no (eqb c k))
 
-  pub any-taken : want_of w ≡ any_type → leb c 32 ≡ code_taken (want_of w).codes c u
+  pub any_taken : want_of w ≡ any_type → leb c 32 ≡ code_taken (want_of w).codes c u
   unfolding code_taken
-  any-taken e = sym (ap (λ (x : Want). code_taken x.codes c u) e ∙ simp (le-leb 0 c (omega arith)) (or_no (leb c 32)))
+  any_taken e = sym (ap (λ (x : Want). code_taken x.codes c u) e ∙ simp (le-leb 0 c (omega arith)) (or_no (leb c 32)))
 
   pub same_taken : (x : Want) (b : Bool) → want_of w ≡ x → b ≡ code_taken x.codes c u → b ≡ code_taken (want_of w).codes c u
   same_taken x b e h = h ∙ ap (λ (y : Want). code_taken y.codes c u) (sym e)
 
 module _ (c u t : ℕ) where
-  pub timed-none : c < 1 → false ≡ code_taken (number_or t).codes c u
+  pub timed_none : c < 1 → false ≡ code_taken (number_or t).codes c u
   unfolding code_taken
-  timed-none h = simp (lt-leb 1 c h, ne_eqb c 25 (λ e. omega arith), ne_eqb c 26 (λ e. omega arith))
+  timed_none h = simp (lt-leb 1 c h, ne_eqb c 25 (λ e. omega arith), ne_eqb c 26 (λ e. omega arith))
 
-  pub timed-plain : 1 ≤ c → c ≤ 5 → true ≡ code_taken (number_or t).codes c u
+  pub timed_plain : 1 ≤ c → c ≤ 5 → true ≡ code_taken (number_or t).codes c u
   unfolding code_taken
-  timed-plain h l = simp (le-leb 1 c h, le-leb c 5 l)
+  timed_plain h l = simp (le-leb 1 c h, le-leb c 5 l)
 
-  pub timed-other : 5 < c → (c < 25) ⊎ (26 < c) → false ≡ code_taken (number_or t).codes c u
+  pub timed_other : 5 < c → (c < 25) ⊎ (26 < c) → false ≡ code_taken (number_or t).codes c u
   unfolding code_taken
-  timed-other h (inl l) = simp (le-leb 1 c (omega arith), lt-leb c 5 h, ne_eqb c 25 (λ e. omega arith), ne_eqb c 26 (λ e. omega arith))
-  timed-other h (inr l) = simp (le-leb 1 c (omega arith), lt-leb c 5 h, ne_eqb c 25 (λ e. omega arith), ne_eqb c 26 (λ e. omega arith))
+  timed_other h (inl l) = simp (le-leb 1 c (omega arith), lt-leb c 5 h, ne_eqb c 25 (λ e. omega arith), ne_eqb c 26 (λ e. omega arith))
+  timed_other h (inr l) = simp (le-leb 1 c (omega arith), lt-leb c 5 h, ne_eqb c 25 (λ e. omega arith), ne_eqb c 26 (λ e. omega arith))
 
-  pub timed-unit : 25 ≤ c → c ≤ 26 → eqb u t ≡ code_taken (number_or t).codes c u
+  pub timed_unit : 25 ≤ c → c ≤ 26 → eqb u t ≡ code_taken (number_or t).codes c u
   unfolding code_taken
-  timed-unit h l = go (eqb c 25) refl
+  timed_unit h l = go (eqb c 25) refl
     where
       go : (b : Bool) → eqb c 25 ≡ b → eqb u t ≡ code_taken (number_or t).codes c u
       go true e = simp (le-leb 1 c (omega arith), lt-leb c 5 (omega arith), e, ne_eqb c 26 (let d = eqb-true c 25 e in λ e. omega arith)) (sym (or_no (eqb u t)))
@@ -90,17 +90,17 @@ module _ (c u t : ℕ) where
           below d h l = omega arith
 
 module _ (c : ℕ) where
-  pub basic-none : c < 1 → false ≡ code_taken basic.codes c 0
+  pub basic_none : c < 1 → false ≡ code_taken basic.codes c 0
   unfolding code_taken
-  basic-none h = simp (lt-leb 1 c h, ne_eqb c 9 (λ e. omega arith))
+  basic_none h = simp (lt-leb 1 c h, ne_eqb c 9 (λ e. omega arith))
 
-  pub basic-plain : 1 ≤ c → c ≤ 3 → true ≡ code_taken basic.codes c 0
+  pub basic_plain : 1 ≤ c → c ≤ 3 → true ≡ code_taken basic.codes c 0
   unfolding code_taken
-  basic-plain h l = simp (le-leb 1 c h, le-leb c 3 l)
+  basic_plain h l = simp (le-leb 1 c h, le-leb c 3 l)
 
-  pub basic-nine : 3 < c → eqb c 9 ≡ code_taken basic.codes c 0
+  pub basic_nine : 3 < c → eqb c 9 ≡ code_taken basic.codes c 0
   unfolding code_taken
-  basic-nine h = simp (le-leb 1 c (omega arith), lt-leb c 3 h) (sym (or_no (eqb c 9)))
+  basic_nine h = simp (le-leb 1 c (omega arith), lt-leb c 3 h) (sym (or_no (eqb c 9)))
 
 -- a number of no want is a plain string, and past the strings with a rule there is none
 get_d_rule : (l : List Want) (k : ℕ) → map (λ (w : Want). w.rule) l ≡ replicate (length l) any → (get_or l k string).rule ≡ any
@@ -122,13 +122,13 @@ want_past w h = get_or-eq_default legend string {n = w} h
 
 -- words
 module _ (s : List ℕ) (at size : ℕ) where
-  pub words-here : (w : List ℕ) (ws : List (List ℕ)) → is_word s at size w ≡ true → true ≡ is_one_of s at size (w ∷ ws)
+  pub words_here : (w : List ℕ) (ws : List (List ℕ)) → is_word s at size w ≡ true → true ≡ is_one_of s at size (w ∷ ws)
   unfolding is_one_of
-  words-here w ws e = simp e
+  words_here w ws e = simp e
 
-  pub words-later : (w : List ℕ) (ws : List (List ℕ)) → is_word s at size w ≡ false → is_one_of s at size ws ≡ is_one_of s at size (w ∷ ws)
+  pub words_later : (w : List ℕ) (ws : List (List ℕ)) → is_word s at size w ≡ false → is_one_of s at size ws ≡ is_one_of s at size (w ∷ ws)
   unfolding is_one_of
-  words-later w ws e = simp e
+  words_later w ws e = simp e
 
   pub words_last : (w : List ℕ) → is_word s at size w ≡ is_one_of s at size (w ∷ [])
   unfolding is_one_of

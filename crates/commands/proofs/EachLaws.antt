@@ -27,13 +27,13 @@ module _ (s : List ℕ) (row : Row) (k : ℕ) (fs : List Field) (i : ℕ) where
   unfolding each
   each_turn h e = here h ∙ simp e
 
-  pub each-stop : i < length fs → test ≡ false → each s row k i (drop i fs) ≡ refused k (get_or fs i no_field).place
+  pub each_stop : i < length fs → test ≡ false → each s row k i (drop i fs) ≡ refused k (get_or fs i no_field).place
   unfolding each
-  each-stop h e = here h ∙ simp e
+  each_stop h e = here h ∙ simp e
 
-  pub each-end : length fs ≤ i → each s row k i (drop i fs) ≡ fine tt
+  pub each_end : length fs ≤ i → each s row k i (drop i fs) ≡ fine tt
   unfolding each
-  each-end h = rw (drop_of_length-le fs h)
+  each_end h = rw (drop_of_length-le fs h)
 
 -- the table holds the rows that were stored in it
 row_cell : (fs : List Field) (rest : List ℕ) (i j : ℕ) → i < length fs → j < row_size
@@ -88,15 +88,15 @@ right_cell s t row k i at w c place first size b e q e0 e1 e2 e3 f h =
 
 -- the loop over the fields
 module _ (s t : List ℕ) (row : Row) (k n i : ℕ) (fs : List Field) (h : Held t n fs) (so : each s row k 0 fs ≡ each s row k i (drop i fs)) where
-  pub each-refuses : (place : ℕ) → i < n → place ≡ get_or t (row_size * i + 1) 0 → test s row k fs i ≡ false → refused k place ≡ done (each s row k 0 fs)
-  each-refuses place l p e =
+  pub each_refuses : (place : ℕ) → i < n → place ≡ get_or t (row_size * i + 1) 0 → test s row k fs i ≡ false → refused k place ≡ done (each s row k 0 fs)
+  each_refuses place l p e =
       let many = h.many in
-      let stop = each-stop s row k fs i (omega arith) e in
+      let stop = each_stop s row k fs i (omega arith) e in
       let at = p ∙ (h.cells i l).place in
       sym (ap done (so ∙ stop) ∙ ap (λ (x : ℕ). refused k x) (sym at))
 
   pub each_goes : i < n → test s row k fs i ≡ true → each s row k 0 fs ≡ each s row k (i + 1) (drop (i + 1) fs)
   each_goes l e = let many = h.many in so ∙ each_turn s row k fs i (omega arith) e
 
-  pub each-ends : n ≤ i → fine 0 ≡ done (each s row k 0 fs)
-  each-ends l = let many = h.many in sym (ap done (so ∙ each-end s row k fs i (omega arith)))
+  pub each_ends : n ≤ i → fine 0 ≡ done (each s row k 0 fs)
+  each_ends l = let many = h.many in sym (ap done (so ∙ each_end s row k fs i (omega arith)))

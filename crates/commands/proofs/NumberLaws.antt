@@ -19,31 +19,31 @@ use Rattle.commands.proofs.TableLaws.{row_count}
 
 -- a command other than FM.2
 module _ (s t : List ℕ) (kind n k m : ℕ) (b : k < 18) (d : k ≡ 4 → ⊥) (e : m ≡ get_or count_row k 0) (fs : List Field) (h : Held t n fs) where
-  fixed-is : number_right s kind (row_at k) fs ≡ guard (eqb n m) 21 kind
+  fixed_is : number_right s kind (row_at k) fs ≡ guard (eqb n m) 21 kind
   unfolding number_right
-  fixed-is =
+  fixed_is =
       let z : length (row_at k).turns ≡ 0 = ap (λ (x : List Want). length x) (row_turns k b) ∙ simp (ne_eqb k 4 d) in
       let c : length (row_at k).fields ≡ m = row_count k b ∙ sym e in
       simp (z, h.many, c)
 
-  pub fixed-other : (n ≡ m → ⊥) → refused 21 kind ≡ done (number_right s kind (row_at k) fs)
-  fixed-other q = sym (ap done fixed-is ∙ simp (ne_eqb n m q))
+  pub fixed_other : (n ≡ m → ⊥) → refused 21 kind ≡ done (number_right s kind (row_at k) fs)
+  fixed_other q = sym (ap done fixed_is ∙ simp (ne_eqb n m q))
 
-  pub fixed-fine : n ≡ m → fine 0 ≡ done (number_right s kind (row_at k) fs)
-  fixed-fine q = sym (ap done fixed-is ∙ simp (eq-eqb n m q))
+  pub fixed_fine : n ≡ m → fine 0 ≡ done (number_right s kind (row_at k) fs)
+  fixed_fine q = sym (ap done fixed_is ∙ simp (eq-eqb n m q))
 
 -- FM.2
 module _ (s t : List ℕ) (kind n k : ℕ) (q : k ≡ 4) (fs : List Field) (h : Held t n fs) where
   abbrev last_of : Field
   last_of = get_or fs 5 no_field
 
-  turns-are : number_right s kind (row_at k) fs
+  turns_are : number_right s kind (row_at k) fs
       ≡ (guard (leb 6 n) 21 kind >> (guard (eqb last_of.code 2) 22 last_of.place >> guard (not_negative (byte s last_of.first) && eqb n (6 + 2 * big s last_of.first 4)) 21 kind))
   unfolding number_right turns_right row_at page want_in code_taken
-  turns-are = rw (q, h.many, or_no)
+  turns_are = rw (q, h.many, or_no)
 
-  pub turns-few : n < 6 → refused 21 kind ≡ done (number_right s kind (row_at k) fs)
-  turns-few l = sym (ap done turns-are ∙ simp (lt-leb 6 n l))
+  pub turns_few : n < 6 → refused 21 kind ≡ done (number_right s kind (row_at k) fs)
+  turns_few l = sym (ap done turns_are ∙ simp (lt-leb 6 n l))
 
   module _ (l : 6 ≤ n) (c : ℕ) (e : c ≡ get_or t (row_size * 5) 0) where
     is_code : c ≡ last_of.code
@@ -53,7 +53,7 @@ module _ (s t : List ℕ) (kind n k : ℕ) (q : k ≡ 4) (fs : List Field) (h : 
     turns-code p f d =
         let a : p ≡ last_of.place = f ∙ (h.cells 5 l).place in
         let g : eqb last_of.code 2 ≡ false = ap (λ (x : ℕ). eqb x 2) (sym is_code) ∙ ne_eqb c 2 d in
-        sym (ap done turns-are ∙ simp (le-leb 6 n l, g) (ap (λ (x : ℕ). refused 22 x) (sym a)))
+        sym (ap done turns_are ∙ simp (le-leb 6 n l, g) (ap (λ (x : ℕ). refused 22 x) (sym a)))
 
     module _ (d : c ≡ 2) (first : ℕ) (f : first ≡ get_or t (row_size * 5 + 2) 0) where
       is-first : last_of.first ≡ first
@@ -62,7 +62,7 @@ module _ (s t : List ℕ) (kind n k : ℕ) (q : k ≡ 4) (fs : List Field) (h : 
       left_is : number_right s kind (row_at k) fs ≡ guard (not_negative (byte s first) && eqb n (6 + 2 * big s first 4)) 21 kind
       left_is =
           let g : eqb last_of.code 2 ≡ true = ap (λ (x : ℕ). eqb x 2) (sym is_code) ∙ eq-eqb c 2 d in
-          turns-are ∙ simp (le-leb 6 n l, g) (ap (λ (x : ℕ). guard (not_negative (byte s x) && eqb n (6 + 2 * big s x 4)) 21 kind) is-first)
+          turns_are ∙ simp (le-leb 6 n l, g) (ap (λ (x : ℕ). guard (not_negative (byte s x) && eqb n (6 + 2 * big s x 4)) 21 kind) is-first)
 
       pub turns-sign : (b : ℕ) → b ≡ byte s first → 128 ≤ b → refused 21 kind ≡ done (number_right s kind (row_at k) fs)
       unfolding not_negative
@@ -87,9 +87,9 @@ done_fine (fine u) n e = refl
 done_fine (refused k p) n e = absurd (not_fine (sym e))
 
 module _ (s : List ℕ) (kind k : ℕ) (fs : List Field) where
-  pub fields-number : (j p : ℕ) → refused j p ≡ done (number_right s kind (row_at k) fs) → refused j p ≡ fields_right s kind k fs
+  pub fields_number : (j p : ℕ) → refused j p ≡ done (number_right s kind (row_at k) fs) → refused j p ≡ fields_right s kind k fs
   unfolding fields_right
-  fields-number j p e = sym (simp (done_refused (number_right s kind (row_at k) fs) j p e))
+  fields_number j p e = sym (simp (done_refused (number_right s kind (row_at k) fs) j p e))
 
   module _ (n : ℕ) (a : fine n ≡ done (number_right s kind (row_at k) fs)) where
     pub fields-codes : (j p : ℕ) → refused j p ≡ done (each s (row_at k) 22 0 fs) → refused j p ≡ fields_right s kind k fs
@@ -107,9 +107,9 @@ module _ (s : List ℕ) (kind k : ℕ) (fs : List Field) where
 
 -- the type frame and the status
 module _ (s : List ℕ) (kind c next at : ℕ) (fs : List Field) where
-  pub type-other : (c ≡ 9 → ⊥) → refused 20 kind ≡ command_of s (looks_at kind c next at) fs
+  pub type_other : (c ≡ 9 → ⊥) → refused 20 kind ≡ command_of s (looks_at kind c next at) fs
   unfolding command_of
-  type-other d = sym (simp (ne_eqb c 9 d))
+  type_other d = sym (simp (ne_eqb c 9 d))
 
   module _ (d : c ≡ 9) (k size : ℕ) (z : size ≡ next - (kind + 5)) (e : k ≡ number_from s (kind + 5) size page 0) where
     number_is : number_at s (looks_at kind c next at) ≡ k

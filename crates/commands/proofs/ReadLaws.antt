@@ -65,32 +65,32 @@ module _ (r : ℕ) (s : List ℕ) where
       by_length true l = by-header l (header s) refl
       by_length false l = inr (simp l)
 
-  judged-alike : reading (M.table r) s ≡ reading M.no_table s → commanded_by r s ≡ commanded s
+  judged_alike : reading (M.table r) s ≡ reading M.no_table s → commanded_by r s ≡ commanded s
   unfolding commanded_by commanded
-  judged-alike e = ap (λ (a : S.Answer M.Reading). S.◌>>=◌ a (λ m. command_of s (looks m.frames) m.fields)) e
+  judged_alike e = ap (λ (a : S.Answer M.Reading). S.◌>>=◌ a (λ m. command_of s (looks m.frames) m.fields)) e
 
-  judged-short : reading (M.table r) s ≡ refused 14 0 → commanded_by r s ≡ refused 14 0
+  judged_short : reading (M.table r) s ≡ refused 14 0 → commanded_by r s ≡ refused 14 0
   unfolding commanded_by
-  judged-short e = ap (λ (a : S.Answer M.Reading). S.◌>>=◌ a (λ m. command_of s (looks m.frames) m.fields)) e
+  judged_short e = ap (λ (a : S.Answer M.Reading). S.◌>>=◌ a (λ m. command_of s (looks m.frames) m.fields)) e
 
-  pub by-found : (k : ℕ) → fine k ≡ commanded_by r s → fine k ≡ commanded s
-  by-found k q = go lent
+  pub by_found : (k : ℕ) → fine k ≡ commanded_by r s → fine k ≡ commanded s
+  by_found k q = go lent
     where
       go : (reading (M.table r) s ≡ refused 14 0) ⊎ (reading (M.table r) s ≡ reading M.no_table s) → fine k ≡ commanded s
-      go (inl e) = absurd (not_fine (sym (q ∙ judged-short e)))
-      go (inr e) = q ∙ judged-alike e
+      go (inl e) = absurd (not_fine (sym (q ∙ judged_short e)))
+      go (inr e) = q ∙ judged_alike e
 
-  pub by-refused : (k p : ℕ) → refused k p ≡ commanded_by r s → (k ≡ 14 → ⊥) → refused k p ≡ commanded s
-  by-refused k p q d = go lent
+  pub by_refused : (k p : ℕ) → refused k p ≡ commanded_by r s → (k ≡ 14 → ⊥) → refused k p ≡ commanded s
+  by_refused k p q d = go lent
     where
       go : (reading (M.table r) s ≡ refused 14 0) ⊎ (reading (M.table r) s ≡ reading M.no_table s) → refused k p ≡ commanded s
-      go (inl e) = absurd (d (number_eq (q ∙ judged-short e)))
-      go (inr e) = q ∙ judged-alike e
+      go (inl e) = absurd (d (number_eq (q ∙ judged_short e)))
+      go (inr e) = q ∙ judged_alike e
 
 -- a table for the most fields has room for every message
 pub by_all : (s : List ℕ) → commanded_by (most_fields * row_size) s ≡ commanded s
 unfolding reading message enough fields_taken
-by_all s = judged-alike (most_fields * row_size) s (by_length (leb (length s) limit) refl)
+by_all s = judged_alike (most_fields * row_size) s (by_length (leb (length s) limit) refl)
   where
     Same : Type 0
     Same = reading (M.table (most_fields * row_size)) s ≡ reading M.no_table s
@@ -121,9 +121,9 @@ module _ (s : List ℕ) (m : M.Reading) (r : ℕ) (q : reading (M.table r) s ≡
       = ap (λ (x : M.Reading). length x.fields) f.says ∙ fields_many _ f.parts.fields in
       omega arith
 
-  pub frame-within : (i : ℕ) → (get_or m.frames (suc i) no_frame).place ≤ limit
+  pub frame_within : (i : ℕ) → (get_or m.frames (suc i) no_frame).place ≤ limit
   unfolding reading
-  frame-within i =
+  frame_within i =
       let f = message_sound limit (M.table r) s m q in
       let e = ap (λ (x : M.Reading). (get_or x.frames (suc i) no_frame).place) f.says in
       let l = cut_within 10 (header_frames f.parts.header) i in
@@ -131,10 +131,10 @@ module _ (s : List ℕ) (m : M.Reading) (r : ℕ) (q : reading (M.table r) s ≡
       let whole = ap (λ (x : List ℕ). length x) f.whole in
       omega (arith, length-append (header_bytes f.parts.header) (flat_map field_bytes f.parts.fields))
 
-  pub judged-of : (fs : List Frame) → fs ≡ map framed m.frames → (kind c next at : ℕ) → (d : Frame) → d ≡ framed no_frame
+  pub judged_of : (fs : List Frame) → fs ≡ map framed m.frames → (kind c next at : ℕ) → (d : Frame) → d ≡ framed no_frame
       → kind ≡ (get_or fs 4 d).place → c ≡ (get_or fs 4 d).code → next ≡ (get_or fs 5 d).place → at ≡ (get_or fs 6 d).place + 1
       → looks_at kind c next at ≡ looks m.frames
-  judged-of fs e kind c next at d z e1 e2 e3 e4 =
+  judged_of fs e kind c next at d z e1 e2 e3 e4 =
       let g : (k : ℕ) → get_or fs k d ≡ framed (get_or m.frames k no_frame)
       =
       λ k.
@@ -153,9 +153,9 @@ module _ (s : List ℕ) (m : M.Reading) (r : ℕ) (q : reading (M.table r) s ≡
   holds t u n e l =
       subst (λ (x : List ℕ). Held x n m.fields) (sym (e ∙ ap (table_after t) q)) (held m.fields t n (sym l))
 
-  pub commanded-is : commanded_by r s ≡ command_of s (looks m.frames) m.fields
+  pub commanded_is : commanded_by r s ≡ command_of s (looks m.frames) m.fields
   unfolding commanded_by
-  commanded-is = simp q
+  commanded_is = simp q
 
 -- where reading accepts: what the judge is given, and what it answers
 abbrev none : Frame
@@ -199,7 +199,7 @@ module _
 
       pub command-frame : (i : ℕ) → (get_or a.frames (suc i) none).place ≤ limit
       command-frame i =
-          let l = frame-within s got.0 (length t) got.1 i in
+          let l = frame_within s got.0 (length t) got.1 i in
           let q
           =
           ap (λ (x : List Frame). (get_or x (suc i) none).place) frames-are
@@ -217,12 +217,12 @@ module _
       command-judged x h =
           h got.0.fields (holds s got.0 (length t) got.1 t u f.fields v (sym many))
           ∙ ap (λ (l : Looks). command_of s l got.0.fields)
-          (judged-of s got.0 (length t) got.1 a.frames frames-are _ _ _ _ none refl refl refl refl refl)
-          ∙ sym (commanded-is s got.0 (length t) got.1)
+          (judged_of s got.0 (length t) got.1 a.frames frames-are _ _ _ _ none refl refl refl refl refl)
+          ∙ sym (commanded_is s got.0 (length t) got.1)
 
 -- a command that is found has a row of the page
 pub command_told : (s : List ℕ) (r k : ℕ) → fine k ≡ commanded_by r s → k < 18
 command_told s r k q =
-    let listed = ((accepts_by_places s k).0 (sym (by-found r s k q))).listed in
+    let listed = ((accepts_by_places s k).0 (sym (by_found r s k q))).listed in
     let long = page_long in
     omega arith

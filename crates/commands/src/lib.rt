@@ -5,8 +5,8 @@ ghost use Rattle.sim0mq.specs.Field as F;
 ghost use Rattle.sim0mq.specs.Header.{most_fields};
 ghost use Rattle.sim0mq.specs.Table.{row_size};
 ghost use Rattle.sim0mq.specs.Views.{judged};
-ghost use Rattle.commands_page.specs.Page.{number_or, basic as basicOf, state_string, fault_string, row_at, page};
-ghost use Rattle.commands_page.specs.Judging.{is_word, code_taken, text_taken, passes as passesOf, want_in, number_from, each as eachOf, number_right, fields_right, looks_at, command_of, commanded};
+ghost use Rattle.commands_page.specs.Page.{number_or, basic as basic_of, state_string, fault_string, row_at, page};
+ghost use Rattle.commands_page.specs.Judging.{is_word, code_taken, text_taken, passes as passes_of, want_in, number_from, each as each_of, number_right, fields_right, looks_at, command_of, commanded};
 ghost use Rattle.commands.specs.Names.{number_of, command_as};
 ghost use Rattle.commands.specs.Tables.{count_row, want_row, want_of, Cell, Held, Ids, done, field_of, commanded_by};
 
@@ -132,7 +132,7 @@ fn timed(c: usize, u: u8, unit: u8) -> bool
 
 // A basic type: a short, an int, a long or a string.
 fn basic(c: usize) -> bool
-    ensures { result ≡ code_taken basicOf.codes c 0 }
+    ensures { result ≡ code_taken basic_of.codes c 0 }
 {
     if c < 1 {
         return false;
@@ -297,7 +297,7 @@ fn passes(
     size: usize,
 ) -> bool
     requires { (place < 4294967296) × (first < 4294967296) }
-    ensures { result ≡ passesOf number s.now (want_of want) (field_of c place first size) }
+    ensures { result ≡ passes_of number s.now (want_of want) (field_of c place first size) }
 {
     if number == 22 {
         return takes(want, c, byte_at(s, place + 1));
@@ -309,7 +309,7 @@ fn passes(
 fn right(s: &[u8], command: usize, number: u32, i: usize, table: &[u32]) -> bool
     requires { (command < 18) × (i < most_fields) × (row_size * i + row_size ≤ length table.now) }
     ensures { (f : F.Field) → Cell table.now (row_size * i) f
-        → result ≡ passesOf number s.now (want_in (row_at command) i) f }
+        → result ≡ passes_of number s.now (want_in (row_at command) i) f }
 {
     let at = ROW * i;
     let w = want(command, i);
@@ -324,7 +324,7 @@ fn right(s: &[u8], command: usize, number: u32, i: usize, table: &[u32]) -> bool
 fn each(s: &[u8], command: usize, number: u32, n: usize, table: &[u32]) -> Judged
     requires { (command < 18) × (n ≤ most_fields) × (row_size * n ≤ length table.now) }
     ensures { (fs : List F.Field) → Held table.now n fs
-        → judged result ≡ done (eachOf s.now (row_at command) number 0 fs) }
+        → judged result ≡ done (each_of s.now (row_at command) number 0 fs) }
 {
     let mut i: usize = 0;
     while i < n {

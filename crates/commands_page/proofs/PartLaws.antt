@@ -43,39 +43,39 @@ module _ (s : List ℕ) (at : ℕ) (v : List ℕ) (st : Stands s at v) where
       let l = eqb-true (length v) (length w) a.0 in
       ext_get_or 0 v w l (λ i h. sym (st.same i h) ∙ stands_bytes s at w a.1 i (omega arith))
 
-  pub word-complete : (w : List ℕ) → v ≡ w → is_word s at (length v) w ≡ true
+  pub word_complete : (w : List ℕ) → v ≡ w → is_word s at (length v) w ≡ true
   unfolding is_word
-  word-complete w e = subst (λ (x : List ℕ). eqb (length v) (length x) && stands_at s at x ≡ true) e (simp (eq-eqb (length v) (length v) refl) (stands_true s at v st))
+  word_complete w e = subst (λ (x : List ℕ). eqb (length v) (length x) && stands_at s at x ≡ true) e (simp (eq-eqb (length v) (length v) refl) (stands_true s at v st))
 
-  words-sound : (ws : List (List ℕ)) → is_one_of s at (length v) ws ≡ true → Memᴰ v ws
+  words_sound : (ws : List (List ℕ)) → is_one_of s at (length v) ws ≡ true → Memᴰ v ws
   unfolding is_one_of
-  words-sound [] e = absurd (false≢true e)
-  words-sound (w ∷ ws) e = go (is_word s at (length v) w) refl e (λ x. words-sound ws x)
+  words_sound [] e = absurd (false≢true e)
+  words_sound (w ∷ ws) e = go (is_word s at (length v) w) refl e (λ x. words_sound ws x)
     where
       go : (b : Bool) → is_word s at (length v) w ≡ b → (b || is_one_of s at (length v) ws) ≡ true → (is_one_of s at (length v) ws ≡ true → Memᴰ v ws) → Memᴰ v (w ∷ ws)
       go true q e rest = Memᴰ.head (word_sound w q)
       go false q e rest = Memᴰ.tail (rest e)
 
-  words-complete : (ws : List (List ℕ)) → Memᴰ v ws → is_one_of s at (length v) ws ≡ true
+  words_complete : (ws : List (List ℕ)) → Memᴰ v ws → is_one_of s at (length v) ws ≡ true
   unfolding is_one_of
-  words-complete [] m = absurd (Memᴰ.not-nil m)
-  words-complete (w ∷ ws) m = go (Memᴰ.cases_cons m) (λ x. words-complete ws x)
+  words_complete [] m = absurd (Memᴰ.not-nil m)
+  words_complete (w ∷ ws) m = go (Memᴰ.cases_cons m) (λ x. words_complete ws x)
     where
       go : (v ≡ w) ⊎ Memᴰ v ws → (Memᴰ v ws → is_one_of s at (length v) ws ≡ true) → (is_word s at (length v) w || is_one_of s at (length v) ws) ≡ true
-      go (inl e) rest = simp (word-complete w e)
+      go (inl e) rest = simp (word_complete w e)
       go (inr x) rest = ap (λ (b : Bool). is_word s at (length v) w || b) (rest x) ∙ or-true (is_word s at (length v) w)
 
-  pub text-sound : (r : Rule) → text_taken r s at (length v) ≡ true → TextAllowed r v
+  pub text_sound : (r : Rule) → text_taken r s at (length v) ≡ true → TextAllowed r v
   unfolding text_taken
-  text-sound any e = tt
-  text-sound filled e = ltb-true 0 (length v) e
-  text-sound (one_of ws) e = words-sound ws e
+  text_sound any e = tt
+  text_sound filled e = ltb-true 0 (length v) e
+  text_sound (one_of ws) e = words_sound ws e
 
-  pub text-complete : (r : Rule) → TextAllowed r v → text_taken r s at (length v) ≡ true
+  pub text_complete : (r : Rule) → TextAllowed r v → text_taken r s at (length v) ≡ true
   unfolding text_taken
-  text-complete any e = refl
-  text-complete filled e = lt-ltb 0 (length v) e
-  text-complete (one_of ws) e = words-complete ws e
+  text_complete any e = refl
+  text_complete filled e = lt-ltb 0 (length v) e
+  text_complete (one_of ws) e = words_complete ws e
 
 -- field i of a payload, as its parts
 pub record Part (s : List ℕ) (x : Field) (f : FieldParts) : Type 0 where
@@ -188,12 +188,12 @@ module _ (p : MessageParts) where
   abbrev pub number_at : ℕ
   number_at = kind_at + length (field_bytes p.header.kind)
 
-  abbrev pub statusAt : ℕ
-  statusAt = number_at + length (field_bytes p.header.message)
+  abbrev pub status_at : ℕ
+  status_at = number_at + length (field_bytes p.header.message)
 
-  pub looks-are : looks (cut_of p).frames ≡ looks_at kind_at p.header.kind.code number_at (statusAt + 1)
+  pub looks_are : looks (cut_of p).frames ≡ looks_at kind_at p.header.kind.code number_at (status_at + 1)
   unfolding cut_frames
-  looks-are = refl
+  looks_are = refl
 
   module _ (s : List ℕ) (whole : message_bytes p ≡ s) where
     abbrev bytes : List FieldParts → List ℕ
@@ -212,18 +212,18 @@ module _ (p : MessageParts) where
     unfolding flat_map
     tail_of at f fs st = stands_right (field_bytes f) (bytes fs) st
 
-    head-of : (at : ℕ) (f : FieldParts) (fs : List FieldParts) → Stands s at (bytes (f ∷ fs)) → Stands s at (field_bytes f)
+    head_of_lem : (at : ℕ) (f : FieldParts) (fs : List FieldParts) → Stands s at (bytes (f ∷ fs)) → Stands s at (field_bytes f)
     unfolding flat_map
-    head-of at f fs st = stands_left (field_bytes f) (bytes fs) st
+    head_of_lem at f fs st = stands_left (field_bytes f) (bytes fs) st
 
     from-kind : Stands s kind_at (bytes (p.header.kind ∷ p.header.message ∷ p.header.status ∷ p.header.count ∷ []))
     from-kind = tail_of _ _ _ (tail_of _ _ _ (tail_of _ _ _ front))
 
     pub kind-there : Stands s kind_at (field_bytes p.header.kind)
-    kind-there = head-of _ _ _ from-kind
+    kind-there = head_of_lem _ _ _ from-kind
 
-    pub status-there : Stands s statusAt (field_bytes p.header.status)
-    status-there = head-of _ _ _ (tail_of _ _ _ (tail_of _ _ _ from-kind))
+    pub status-there : Stands s status_at (field_bytes p.header.status)
+    status-there = head_of_lem _ _ _ (tail_of _ _ _ (tail_of _ _ _ from-kind))
 
 -- a frame of a cut lies in the bytes that are cut
 pub cut_within : (at : ℕ) (ps : List FieldParts) (i : ℕ) → (get_or (cut_frames at ps) i no_frame).place ≤ at + length (flat_map field_bytes ps)
@@ -236,12 +236,12 @@ cut_within at (p ∷ ps) (suc i) =
 
 -- type frame and status byte stand in the header, where there is no value byte
 module _ (p : MessageParts) where
-  pub header-ends : (number_at p ≤ length (header_bytes p.header)) × (statusAt p + 1 ≤ length (header_bytes p.header))
+  pub header_ends : (number_at p ≤ length (header_bytes p.header)) × (status_at p + 1 ≤ length (header_bytes p.header))
   unfolding cut_frames
-  header-ends =
+  header_ends =
       let number = cut_within 10 (header_frames p.header) 4 in
       let count = cut_within 10 (header_frames p.header) 6 in
       (omega arith, omega arith)
 
-  pub header-apart : (i : ℕ) → i ≤ length (header_bytes p.header) → ValueByte (cut_of p).fields i → ⊥
-  header-apart i h v = let l = values_after (length (header_bytes p.header)) i p.fields v in omega arith
+  pub header_apart : (i : ℕ) → i ≤ length (header_bytes p.header) → ValueByte (cut_of p).fields i → ⊥
+  header_apart i h v = let l = values_after (length (header_bytes p.header)) i p.fields v in omega arith

@@ -60,43 +60,43 @@ module _ (s : List ℕ) (kind : ℕ) (row : Row) (fs : List Field) where
   abbrev last_of : Field
   last_of = get_or fs (length row.fields - 1) no_field
 
-  number-plain : row.turns ≡ [] → number_right s kind row fs ≡ guard (eqb (length fs) (length row.fields)) 21 kind
+  number_plain : row.turns ≡ [] → number_right s kind row fs ≡ guard (eqb (length fs) (length row.fields)) 21 kind
   unfolding number_right
-  number-plain q = simp q
+  number_plain q = simp q
 
-  number-turns : (t : Want) (ts : List Want) → row.turns ≡ t ∷ ts → number_right s kind row fs ≡ turns_right s kind row last_of (length fs)
+  number_turns : (t : Want) (ts : List Want) → row.turns ≡ t ∷ ts → number_right s kind row fs ≡ turns_right s kind row last_of (length fs)
   unfolding number_right
-  number-turns t ts q =
+  number_turns t ts q =
       let l : length row.turns ≡ suc (length ts) = ap (λ (x : List Want). length x) q in
       simp (ne_eqb (length row.turns) 0 (λ z. omega arith))
 
-  turns-sound : {u : Unit {0}} → turns_right s kind row last_of (length fs) ≡ fine u → TurnsAllowed s row last_of (length fs)
+  turns_sound : {u : Unit {0}} → turns_right s kind row last_of (length fs) ≡ fine u → TurnsAllowed s row last_of (length fs)
   unfolding turns_right
-  turns-sound e =
+  turns_sound e =
       let a = guarded (leb (length row.fields) (length fs)) 21 kind _ e in
       let b = guarded (code_right s (want_in row (length row.fields - 1)) last_of) 22 last_of.place _ a.1 in
       let c = and_true (not_negative (byte s last_of.first)) _ (guard_true _ 21 kind b.1) in
       record { code = b.0; sign = c.0; many = eqb-true _ _ c.1 }
 
-  turns-complete : TurnsAllowed s row last_of (length fs) → turns_right s kind row last_of (length fs) ≡ fine tt
+  turns_complete : TurnsAllowed s row last_of (length fs) → turns_right s kind row last_of (length fs) ≡ fine tt
   unfolding turns_right
-  turns-complete h =
+  turns_complete h =
       let n = h.many in
       simp (le-leb (length row.fields) (length fs) (omega arith), h.code, h.sign, eq-eqb (length fs) (length row.fields + 2 * big s last_of.first 4) n)
 
-  number-sound : {u : Unit {0}} → number_right s kind row fs ≡ fine u → NumberAllowed s row row.turns fs
-  number-sound {u} e = go row.turns refl
+  number_sound : {u : Unit {0}} → number_right s kind row fs ≡ fine u → NumberAllowed s row row.turns fs
+  number_sound {u} e = go row.turns refl
     where
       go : (ts : List Want) → row.turns ≡ ts → NumberAllowed s row ts fs
-      go [] q = eqb-true _ _ (guard_true (eqb (length fs) (length row.fields)) 21 kind (sym (number-plain q) ∙ e))
-      go (t ∷ ts) q = turns-sound (sym (number-turns t ts q) ∙ e)
+      go [] q = eqb-true _ _ (guard_true (eqb (length fs) (length row.fields)) 21 kind (sym (number_plain q) ∙ e))
+      go (t ∷ ts) q = turns_sound (sym (number_turns t ts q) ∙ e)
 
-  number-complete : NumberAllowed s row row.turns fs → number_right s kind row fs ≡ fine tt
-  number-complete h = go row.turns refl h
+  number_complete : NumberAllowed s row row.turns fs → number_right s kind row fs ≡ fine tt
+  number_complete h = go row.turns refl h
     where
       go : (ts : List Want) → row.turns ≡ ts → NumberAllowed s row ts fs → number_right s kind row fs ≡ fine tt
-      go [] q h = number-plain q ∙ simp (eq-eqb (length fs) (length row.fields) h)
-      go (t ∷ ts) q h = number-turns t ts q ∙ turns-complete h
+      go [] q h = number_plain q ∙ simp (eq-eqb (length fs) (length row.fields) h)
+      go (t ∷ ts) q h = number_turns t ts q ∙ turns_complete h
 
 -- the two tests
 zero_more : (P : ℕ → Type 0) (i : ℕ) → P (0 + i) → P i
@@ -130,7 +130,7 @@ accepted s k e =
             string = eqb-true l.code 9 a.0;
             id = number_word s (l.kind + 5) (l.next - (l.kind + 5)) j below refl;
             status = eqb-true (byte s l.status) (row_at j).status d.0;
-            number = number-sound s l.kind (row_at j) fs f.1;
+            number = number_sound s l.kind (row_at j) fs f.1;
             codes = λ n h. zero_more (λ (x : ℕ). code_right s (want_in (row_at j) x) (get_or fs n no_field) ≡ true) n (each_all s (row_at j) 22 0 fs g.1 n h);
             strings = λ n h. zero_more (λ (x : ℕ). text_right s (want_in (row_at j) x) (get_or fs n no_field) ≡ true) n (each_all s (row_at j) 23 0 fs i.1 n h);
           };
@@ -151,7 +151,7 @@ allowed s k h =
     let strings : each s (row_at k) 23 0 fs ≡ fine tt
     = all_each s (row_at k) 23 0 fs (λ n w. zero_less (λ (x : ℕ). text_right s (want_in (row_at k) x) (get_or fs n no_field) ≡ true) n (c.strings n w)) in
     simp
-    (h.is_message, eq-eqb l.code 9 c.string, j, lt-ltb k (length page) below, eq-eqb (byte s l.status) (row_at k).status c.status, number-complete s l.kind (row_at k) fs c.number, codes, strings)
+    (h.is_message, eq-eqb l.code 9 c.string, j, lt-ltb k (length page) below, eq-eqb (byte s l.status) (row_at k).status c.status, number_complete s l.kind (row_at k) fs c.number, codes, strings)
 
 pub accepts_by_places : AcceptsByPlaces
 accepts_by_places s k = (accepted s k, allowed s k)

@@ -22,24 +22,24 @@ Safe P (fine a) = Unit {0}
 Safe P (refused n p) = P n p
 
 module _ (P : ℕ → ℕ → Type 0) where
-  safe-guard : (b : Bool) (k p : ℕ) → P k p → Safe P (guard b k p)
-  safe-guard true k p h = tt
-  safe-guard false k p h = h
+  safe_guard : (b : Bool) (k p : ℕ) → P k p → Safe P (guard b k p)
+  safe_guard true k p h = tt
+  safe_guard false k p h = h
 
-  safe-then : {B : Type 0} (b : Bool) (k p : ℕ) (r : Answer B) → P k p → (b ≡ true → Safe P r) → Safe P (guard b k p >> r)
-  safe-then true k p r h g = g refl
-  safe-then false k p r h g = h
+  safe_then : {B : Type 0} (b : Bool) (k p : ℕ) (r : Answer B) → P k p → (b ≡ true → Safe P r) → Safe P (guard b k p >> r)
+  safe_then true k p r h g = g refl
+  safe_then false k p r h g = h
 
-  safe-bind : {A B : Type 0} (a : Answer A) (f : A → Answer B) → Safe P a → ((x : A) → Safe P (f x)) → Safe P (a >>= f)
-  safe-bind (fine x) f h g = g x
-  safe-bind (refused n p) f h g = h
+  safe_bind : {A B : Type 0} (a : Answer A) (f : A → Answer B) → Safe P a → ((x : A) → Safe P (f x)) → Safe P (a >>= f)
+  safe_bind (fine x) f h g = g x
+  safe_bind (refused n p) f h g = h
 
-  safe-each : (s : List ℕ) (row : Row) (k j : ℕ) (fs : List Field) → ((i : ℕ) → i < length fs → P k (get_or fs i no_field).place) → Safe P (each s row k j fs)
+  safe_each : (s : List ℕ) (row : Row) (k j : ℕ) (fs : List Field) → ((i : ℕ) → i < length fs → P k (get_or fs i no_field).place) → Safe P (each s row k j fs)
   unfolding each
-  safe-each s row k j [] h = tt
-  safe-each s row k j (f ∷ fs) h =
-      safe-bind (guard (passes k s (want_in row j) f) k f.place) _
-      (safe-guard (passes k s (want_in row j) f) k f.place (h 0 (omega arith))) (λ u. safe-each s row k (j + 1) fs (λ i l. h (suc i) (omega arith)))
+  safe_each s row k j [] h = tt
+  safe_each s row k j (f ∷ fs) h =
+      safe_bind (guard (passes k s (want_in row j) f) k f.place) _
+      (safe_guard (passes k s (want_in row j) f) k f.place (h 0 (omega arith))) (λ u. safe_each s row k (j + 1) fs (λ i l. h (suc i) (omega arith)))
 
 -- a row with fields by turns has six before them
 pub six : (k : ℕ) → k < 18 → eqb (length (row_at k).turns) 0 ≡ false → length (row_at k).fields ≡ 6
@@ -52,37 +52,37 @@ module _ (s : List ℕ) (m : Reading) where
   abbrev kind_of : ℕ
   kind_of = (looks m.frames).kind
 
-  safe-turns : (row : Row) (last : Field) (n : ℕ) → (length row.fields ≤ n → P 22 last.place) → Safe P (turns_right s kind_of row last n)
+  safe_turns : (row : Row) (last : Field) (n : ℕ) → (length row.fields ≤ n → P 22 last.place) → Safe P (turns_right s kind_of row last n)
   unfolding turns_right
-  safe-turns row last n g =
-      safe-then P (leb (length row.fields) n) 21 kind_of _ (at_type 21 (inr refl))
+  safe_turns row last n g =
+      safe_then P (leb (length row.fields) n) 21 kind_of _ (at_type 21 (inr refl))
       (λ e.
-      safe-then P (code_right s (want_in row (length row.fields - 1)) last) 22 last.place _ (g (leb-true _ _ e))
-      (λ w. safe-guard P (not_negative (byte s last.first) && eqb n (length row.fields + 2 * big s last.first 4)) 21 kind_of (at_type 21 (inr refl))))
+      safe_then P (code_right s (want_in row (length row.fields - 1)) last) 22 last.place _ (g (leb-true _ _ e))
+      (λ w. safe_guard P (not_negative (byte s last.first) && eqb n (length row.fields + 2 * big s last.first 4)) 21 kind_of (at_type 21 (inr refl))))
 
-  safe-number : (k : ℕ) → k < 18 → Safe P (number_right s kind_of (row_at k) m.fields)
+  safe_number : (k : ℕ) → k < 18 → Safe P (number_right s kind_of (row_at k) m.fields)
   unfolding number_right
-  safe-number k h = go (eqb (length (row_at k).turns) 0) refl
+  safe_number k h = go (eqb (length (row_at k).turns) 0) refl
     where
       go : (b : Bool) → eqb (length (row_at k).turns) 0 ≡ b → Safe P (number_right s kind_of (row_at k) m.fields)
-      go true q = simp q (safe-guard P (eqb (length m.fields) (length (row_at k).fields)) 21 kind_of (at_type 21 (inr refl)))
+      go true q = simp q (safe_guard P (eqb (length m.fields) (length (row_at k).fields)) 21 kind_of (at_type 21 (inr refl)))
       go false q =
           let n = six k h q in
           simp q
-          (safe-turns (row_at k) (get_or m.fields (length (row_at k).fields - 1) no_field) (length m.fields)
+          (safe_turns (row_at k) (get_or m.fields (length (row_at k).fields - 1) no_field) (length m.fields)
           (λ l. at_field 22 (length (row_at k).fields - 1) (inl refl) (omega arith)))
 
-  safe-command : Safe P (command_of s (looks m.frames) m.fields)
+  safe_command : Safe P (command_of s (looks m.frames) m.fields)
   unfolding command_of row_right fields_right
-  safe-command =
+  safe_command =
       let k = number_at s (looks m.frames) in
-      safe-then P (eqb (looks m.frames).code 9) 20 kind_of _ (at_type 20 (inl refl))
-      (λ a. safe-then P (ltb k (length page)) 20 kind_of _ (at_type 20 (inl refl))
-      (λ b. safe-then P (eqb (byte s (looks m.frames).status) (row_at k).status) 21 kind_of _ (at_type 21 (inr refl))
+      safe_then P (eqb (looks m.frames).code 9) 20 kind_of _ (at_type 20 (inl refl))
+      (λ a. safe_then P (ltb k (length page)) 20 kind_of _ (at_type 20 (inl refl))
+      (λ b. safe_then P (eqb (byte s (looks m.frames).status) (row_at k).status) 21 kind_of _ (at_type 21 (inr refl))
       (λ c.
-      safe-bind P (number_right s kind_of (row_at k) m.fields) _ (safe-number k (below k b)) (λ u.
-      safe-bind P (each s (row_at k) 22 0 m.fields) _ (safe-each P s (row_at k) 22 0 m.fields (λ i l. at_field 22 i (inl refl) l)) (λ u.
-      safe-bind P (each s (row_at k) 23 0 m.fields) _ (safe-each P s (row_at k) 23 0 m.fields (λ i l. at_field 23 i (inr refl) l)) (λ u. tt))))))
+      safe_bind P (number_right s kind_of (row_at k) m.fields) _ (safe_number k (below k b)) (λ u.
+      safe_bind P (each s (row_at k) 22 0 m.fields) _ (safe_each P s (row_at k) 22 0 m.fields (λ i l. at_field 22 i (inl refl) l)) (λ u.
+      safe_bind P (each s (row_at k) 23 0 m.fields) _ (safe_each P s (row_at k) 23 0 m.fields (λ i l. at_field 23 i (inr refl) l)) (λ u. tt))))))
     where
       below : (k : ℕ) → ltb k (length page) ≡ true → k < 18
       below k e = let l = ltb-true k (length page) e in let n = page_long in omega arith
@@ -98,5 +98,5 @@ unfolding commanded
 refusals_are_placed s n p e = go (reading no_table s) refl
   where
     go : (a : Answer Reading) → reading no_table s ≡ a → (reading no_table s ≡ refused n p) ⊎ ((m : Reading) × (reading no_table s ≡ fine m) × Placed m n p)
-    go (fine m) q = inr (m, q, refused_safe (Placed m) (command_of s (looks m.frames) m.fields) n p (simp q at e) (safe-command s m))
+    go (fine m) q = inr (m, q, refused_safe (Placed m) (command_of s (looks m.frames) m.fields) n p (simp q at e) (safe_command s m))
     go (refused k w) q = inl (q ∙ refused_as (simp q at e))

@@ -23,7 +23,7 @@ use Rattle.commands_page.specs.Places.{id_size}
 use Rattle.commands_page.specs.Promises.{Weighed, of_word, of_number, row_named, VerdictHangsOnFewBytes}
 use Rattle.commands_page.proofs.PageLaws.{page_long, row_by_row}
 use Rattle.commands_page.proofs.Refusals.{six}
-use Rattle.commands_page.proofs.PartLaws.{looks-are, header-ends, header-apart, unit_apart}
+use Rattle.commands_page.proofs.PartLaws.{looks_are, header_ends, header_apart, unit_apart}
 use Rattle.commands_page.proofs.WordLaws.{number_agree, words_agree}
 
 -- the page asks for a unit type only of codes 25 and 26
@@ -144,9 +144,9 @@ module _ (s t : List ℕ) (m : Reading) (k : ℕ) (h : k < 18) (same : (i : ℕ)
   unfolding passes
   codes_same = each_agree s t row_of 22 0 fs (λ i l. code_same (0 + i) i l)
 
-  strings-same : each s row_of 23 0 fs ≡ each t row_of 23 0 fs
+  strings_same : each s row_of 23 0 fs ≡ each t row_of 23 0 fs
   unfolding passes
-  strings-same =
+  strings_same =
       each_agree s t row_of 23 0 fs
       (λ i l. text_agree s t (want_in row_of (0 + i)).rule (get_or fs i no_field).first (get_or fs i no_field).size
       (λ ws e n b. same _ (of_value (of_word i n ws l (at_zero i ws e) b))))
@@ -190,7 +190,7 @@ module _ (s t : List ℕ) (m : Reading) (k : ℕ) (h : k < 18) (same : (i : ℕ)
       let st = same _ of_status in
       let n = number_same (looks m.frames).kind in
       let c = codes_same in
-      let w = strings-same in
+      let w = strings_same in
       (λ x.
       guard (eqb (st x) (row_at k).status) 21 (looks m.frames).kind
       >> (n x >>= (λ number. c x >>= (λ codes. w x >>= (λ strings. fine k)))))
@@ -232,15 +232,15 @@ looked_apart s m row q i look =
         → Weighed m row i ⊎ (ValueByte m.fields i → ⊥)
     go p is m e i (of_value w) = inl w
     go p is m e i (of_type n h) =
-        let at = ap (λ (x : Reading). looks x.frames) e ∙ looks-are p in
+        let at = ap (λ (x : Reading). looks x.frames) e ∙ looks_are p in
         let kind = ap (λ (l : Looks). l.kind) at in
         let next = ap (λ (l : Looks). l.next) at in
-        let end = (header-ends p).0 in
-        inr (λ v. header-apart p ((looks m.frames).kind + 5 + n) (omega arith) (subst (λ (x : Reading). ValueByte x.fields ((looks m.frames).kind + 5 + n)) e v))
+        let end = (header_ends p).0 in
+        inr (λ v. header_apart p ((looks m.frames).kind + 5 + n) (omega arith) (subst (λ (x : Reading). ValueByte x.fields ((looks m.frames).kind + 5 + n)) e v))
     go p is m e i of_status =
-        let at = ap (λ (l : Looks). l.status) (ap (λ (x : Reading). looks x.frames) e ∙ looks-are p) in
-        let end = (header-ends p).1 in
-        inr (λ v. header-apart p (looks m.frames).status (omega arith) (subst (λ (x : Reading). ValueByte x.fields (looks m.frames).status) e v))
+        let at = ap (λ (l : Looks). l.status) (ap (λ (x : Reading). looks x.frames) e ∙ looks_are p) in
+        let end = (header_ends p).1 in
+        inr (λ v. header_apart p (looks m.frames).status (omega arith) (subst (λ (x : Reading). ValueByte x.fields (looks m.frames).status) e v))
     go p is m e i (of_unit j h d) =
         inr (subst (λ (x : Reading). (j < length x.fields) → ((get_or x.fields j no_field).code ≡ 25) ⊎ ((get_or x.fields j no_field).code ≡ 26) → ValueByte x.fields ((get_or x.fields j no_field).place + 1) → ⊥) (sym e)
         (λ b c. unit_apart (length (header_bytes p.header)) p.fields j is b c) h d)

@@ -134,7 +134,7 @@ use Rattle.writing_puts.proofs.bits.Reads as bits
 use Rattle.writing_puts.proofs.put_big.Reads as put-big
 use Rattle.writing_puts.proofs.put_number.Reads as put-number
 use Rattle.writing_encoding.proofs.encode.Reads as encode
-use Rattle.writing_encoding.proofs.mark_taken.Reads as mark-taken
+use Rattle.writing_encoding.proofs.mark_taken.Reads as mark_taken_lem
 use Rattle.boundary_crossing.proofs.give_read.Reads as give-read
 use Rattle.boundary_crossing.proofs.give_length.Reads as give-length
 use Rattle.boundary_crossing.proofs.give_view.Reads as give-view
@@ -677,7 +677,7 @@ put_number_out = equated _ (λ κs a z e p. p)
 pub encode_result : Determines encode.Post (λ κs z e. z)
 encode_result = equated _ (λ κs a z e p. p)
 
-pub mark_taken_result : Determines mark-taken.Post (λ κs z e. z)
+pub mark_taken_result : Determines mark_taken_lem.Post (λ κs z e. z)
 mark_taken_result = equated _ (λ κs a z e p. p)
 
 -- The calls of crate opening.

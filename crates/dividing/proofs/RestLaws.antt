@@ -20,7 +20,7 @@ use Rattle.sim0mq.proofs.Stands.{Stands, stands_to, stands_left, stands_right, s
 use Rattle.sim0mq.proofs.FieldLaws.{after_at, field_complete, FoundField, field_sound}
 use Rattle.sim0mq.proofs.HeaderLaws.{header_at, FoundHeader, header_sound}
 use Rattle.sim0mq.proofs.MessageLaws.{front_complete}
-use Rattle.sim0mq.proofs.Refusals.{item_numbers, Held, field-placed, field_within, header-placed}
+use Rattle.sim0mq.proofs.Refusals.{item_numbers, Held, field_placed, field_within, header_placed}
 
 -- taking a refusal by 13 apart: a step whose refusals bear other numbers was passed
 thirteen : {A : Type 0} {k q p : ℕ} → among k item_numbers ≡ true → ◌≡◌ {A = Answer A} (refused k q) (refused 13 p) → ⊥
@@ -95,7 +95,7 @@ payload_rest zero s at p h q =
     let e : at ≡ p = g.1 in
     record { parts = []; many = refl; are = none; there = stands_nil h; ends = omega arith; left = omega arith }
 payload_rest (suc n) s at p h q =
-    let a = bind_rest (length s) (field s at) _ (field-placed s at) q in
+    let a = bind_rest (length s) (field s at) _ (field_placed s at) q in
     let x = field_sound s at a.0 a.1 in
     front_more x (payload_rest n s (after a.0) p (field_within s at a.0 a.1).1 (bind_last (payload_from s n (after a.0)) _ a.2))
 
@@ -167,7 +167,7 @@ pub message_rest_lem : (most : ℕ) (s : List ℕ) (p : ℕ) → message most no
 unfolding message message_rest payload
 message_rest_lem most s p q =
     let a = guarded_rest (leb (length s) most) 8 0 _ (λ z. omega arith) q in
-    let b = bind_rest (length s) (header s) _ (header-placed s) a.1 in
+    let b = bind_rest (length s) (header s) _ (header_placed s) a.1 in
     let h = b.0 in
     let c = guarded_rest (enough no_table h.fields) 14 0 _ (λ z. omega arith) b.2 in
     let d = bind_last (part_at h.next (payload_from (drop h.next s) h.fields 0)) _ c.1 in

@@ -36,9 +36,9 @@ use Rattle.ledger.specs.Ledger.{after_mustering}
 -- the book's answer to a message, and what it does
 module _ (l : Ledger) (b : Book) (s : List ℕ) (frames : List H.Frame) (d : Deed) (t : Taken)
     (e : t ≡ after_taking b (taking_framed b.senders s frames)) where
-  pub book-stops : (r : Refusal) → t.said ≡ Judged-as-Refused r
+  pub book_stops : (r : Refusal) → t.said ≡ Judged-as-Refused r
       → refused r.number r.place ≡ entering d (taking_framed b.senders s frames)
-  book-stops r q = go (taking_framed b.senders s frames) e
+  book_stops r q = go (taking_framed b.senders s frames) e
     where
       go : (x : S.Answer Entry) → t ≡ after_taking b x → refused r.number r.place ≡ entering d x
       go (fine y) z =
@@ -52,10 +52,10 @@ module _ (l : Ledger) (b : Book) (s : List ℕ) (frames : List H.Frame) (d : Dee
           let v : ◌≡◌ {A = Refusal} (record { number = k; place = p }) r = cc in
           ap (λ (y : Refusal). refused y.number y.place) (sym v)
 
-  pub book-goes : (i : ℕ) (after : List ℕ) → t.said ≡ Judged-as-Accepted i → after ≡ decks_after l.heads d
+  pub book_goes : (i : ℕ) (after : List ℕ) → t.said ≡ Judged-as-Accepted i → after ≡ decks_after l.heads d
       → ◌≡◌ {A = Mustered} (record { said = Judged-as-Accepted i; ledger = record { heads = after }; book = t.book })
       (after_mustering l b (entering d (taking_framed b.senders s frames)))
-  book-goes i after q w = go (taking_framed b.senders s frames) e
+  book_goes i after q w = go (taking_framed b.senders s frames) e
     where
       go : (x : S.Answer Entry) → t ≡ after_taking b x
           → ◌≡◌ {A = Mustered} (record { said = Judged-as-Accepted i; ledger = record { heads = after }; book = t.book })
@@ -73,32 +73,32 @@ module _ (l : Ledger) (b : Book) (s : List ℕ) (frames : List H.Frame) (d : Dee
 -- mustering by frames, of which these are the places
 module _ (ds : List ℕ) (b : List Sender) (s : List ℕ) (frames : List H.Frame) (kind status count n : ℕ)
     (four : kind ≡ frame_place frames 4) (six : status ≡ frame_place frames 6) (seven : count ≡ frame_place frames 7) where
-  pub framed-order : ordering_by ds s kind status count n ≡ ordering_framed ds s frames n
+  pub framed_order : ordering_by ds s kind status count n ≡ ordering_framed ds s frames n
   unfolding ordering_framed
-  framed-order = λ i. ordering_by ds s (four i) (six i) (seven i) n
+  framed_order = λ i. ordering_by ds s (four i) (six i) (seven i) n
 
-  pub framed-stops : (k p : ℕ) → ordering_by ds s kind status count n ≡ refused k p
+  pub framed_stops : (k p : ℕ) → ordering_by ds s kind status count n ≡ refused k p
       → refused k p ≡ mustering_framed ds b s frames n
   unfolding mustering_framed
-  framed-stops k p e =
-      ap (λ (a : S.Answer Deed). a >>= (λ (d : Deed). entering d (taking_framed b s frames))) (sym e ∙ framed-order)
+  framed_stops k p e =
+      ap (λ (a : S.Answer Deed). a >>= (λ (d : Deed). entering d (taking_framed b s frames))) (sym e ∙ framed_order)
 
-  pub framed-goes : (d : Deed) → ordering_by ds s kind status count n ≡ fine d
+  pub framed_goes : (d : Deed) → ordering_by ds s kind status count n ≡ fine d
       → entering d (taking_framed b s frames) ≡ mustering_framed ds b s frames n
   unfolding mustering_framed
-  framed-goes d e =
-      ap (λ (a : S.Answer Deed). a >>= (λ (d : Deed). entering d (taking_framed b s frames))) (sym e ∙ framed-order)
+  framed_goes d e =
+      ap (λ (a : S.Answer Deed). a >>= (λ (d : Deed). entering d (taking_framed b s frames))) (sym e ∙ framed_order)
 
 -- mustering a message of which this is reading's answer
 module _ (ds : List ℕ) (b : List Sender) (s : List ℕ) (a : Answer) (e : a ≡ answered (reading no_table s)) where
-  pub muster-stops : (r : Refusal) → a.said ≡ Refused r → refused r.number r.place ≡ mustering ds b s
-  muster-stops r q =
+  pub muster_stops : (r : Refusal) → a.said ≡ Refused r → refused r.number r.place ≡ mustering ds b s
+  muster_stops r q =
       sym (reading_comes_first ds b s r.number r.place
       (said_refused (reading no_table s) r (sym (ap (λ (y : Answer). y.said) e) ∙ q)))
 
-  pub muster-goes : (f : Found) → a.said ≡ Accepted f
+  pub muster_goes : (f : Found) → a.said ≡ Accepted f
       → mustering_framed ds b s (map shown a.frames) f.fields ≡ mustering ds b s
-  muster-goes f q =
+  muster_goes f q =
       let m = said_fine (reading no_table s) f (sym (ap (λ (y : Answer). y.said) e) ∙ q) in
       let found : map shown a.frames ≡ m.0.frames
       = ap (map shown) (ap (λ (y : Answer). y.frames) (e ∙ ap answered m.1)) ∙ shown_back m.0.frames in

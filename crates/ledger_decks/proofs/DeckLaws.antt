@@ -26,15 +26,15 @@ module _ (ds : List ℕ) (e : ℕ) (h : e < length ds) where
       go true q = ap (heads_on (set ds e x)) (eqb-true d e q) ∙ get_or-set_same ds e x 0 h
       go false q = get_or-set_other ds e d x 0 (eqb-false d e q)
 
-  more-at : (d : ℕ) → heads_on (one_more ds e) d ≡ heads_on ds d + cond (eqb d e) 1 0
-  more-at d = set_at d (heads_on ds e + 1) ∙ go (eqb d e) refl
+  more_at : (d : ℕ) → heads_on (one_more ds e) d ≡ heads_on ds d + cond (eqb d e) 1 0
+  more_at d = set_at d (heads_on ds e + 1) ∙ go (eqb d e) refl
     where
       go : (t : Bool) → eqb d e ≡ t → cond t (heads_on ds e + 1) (heads_on ds d) ≡ heads_on ds d + cond t 1 0
       go true q = ap (λ (j : ℕ). heads_on ds j + 1) (sym (eqb-true d e q))
       go false q = omega arith
 
-  less-at : 1 ≤ heads_on ds e → (d : ℕ) → heads_on (one_less ds e) d + cond (eqb d e) 1 0 ≡ heads_on ds d
-  less-at one d = ap (λ (j : ℕ). j + cond (eqb d e) 1 0) (set_at d (heads_on ds e - 1)) ∙ go (eqb d e) refl
+  less_at : 1 ≤ heads_on ds e → (d : ℕ) → heads_on (one_less ds e) d + cond (eqb d e) 1 0 ≡ heads_on ds d
+  less_at one d = ap (λ (j : ℕ). j + cond (eqb d e) 1 0) (set_at d (heads_on ds e - 1)) ∙ go (eqb d e) refl
     where
       go : (t : Bool) → eqb d e ≡ t → cond t (heads_on ds e - 1) (heads_on ds d) + cond t 1 0 ≡ heads_on ds d
       go true q = let z : heads_on ds d ≡ heads_on ds e = ap (heads_on ds) (eqb-true d e q) in omega arith
@@ -53,41 +53,41 @@ room_of : (ds : List ℕ) (joined left : ℕ) → eqb joined left ≡ false → 
 room_of ds joined left q h = ltb-true _ _ (rw q at h)
 
 module _ (ds : List ℕ) (long : length ds ≡ deck_count) where
-  pub deed-long : (x : Deed) → length (decks_after ds x) ≡ deck_count
+  pub deed_long : (x : Deed) → length (decks_after ds x) ≡ deck_count
   unfolding decks_after
-  deed-long (Joins joined) = length-set ds joined (heads_on ds joined + 1) ∙ long
-  deed-long (Leaves left) = length-set ds left (heads_on ds left - 1) ∙ long
-  deed-long (Moves joined left) = go (eqb joined left)
+  deed_long (Joins joined) = length-set ds joined (heads_on ds joined + 1) ∙ long
+  deed_long (Leaves left) = length-set ds left (heads_on ds left - 1) ∙ long
+  deed_long (Moves joined left) = go (eqb joined left)
     where
       go : (t : Bool) → length (cond t ds (one_more (one_less ds left) joined)) ≡ deck_count
       go true = long
       go false = length-set (one_less ds left) joined _ ∙ (length-set ds left _ ∙ long)
 
-  pub deed-deck : (x : Deed) → CanBeDone ds x → (d : ℕ)
+  pub deed_deck : (x : Deed) → CanBeDone ds x → (d : ℕ)
       → heads_on (decks_after ds x) d + departs d x ≡ heads_on ds d + arrives d x
   unfolding decks_after
-  deed-deck (Joins joined) h d = let m = more-at ds joined (omega arith) d in omega arith
-  deed-deck (Leaves left) h d = let m = less-at ds left (omega arith) h.1 d in omega arith
-  deed-deck (Moves joined left) h d = go (eqb joined left) refl
+  deed_deck (Joins joined) h d = let m = more_at ds joined (omega arith) d in omega arith
+  deed_deck (Leaves left) h d = let m = less_at ds left (omega arith) h.1 d in omega arith
+  deed_deck (Moves joined left) h d = go (eqb joined left) refl
     where
       go : (t : Bool) → eqb joined left ≡ t
           → heads_on (cond t ds (one_more (one_less ds left) joined)) d + cond (eqb d left) 1 0
           ≡ heads_on ds d + cond (eqb d joined) 1 0
       go true q = ap (λ (j : ℕ). heads_on ds d + cond (eqb d j) 1 0) (sym (eqb-true joined left q))
       go false q =
-          let l = less-at ds left (omega arith) h.2 d in
+          let l = less_at ds left (omega arith) h.2 d in
           let w : joined < length (one_less ds left) = omega (arith, length-set ds left (heads_on ds left - 1)) in
-          let m = more-at (one_less ds left) joined w d in
+          let m = more_at (one_less ds left) joined w d in
           omega arith
 
-  pub deed-total : (x : Deed) → CanBeDone ds x → total (decks_after ds x) + is_delete x ≡ total ds + is_new x
+  pub deed_total : (x : Deed) → CanBeDone ds x → total (decks_after ds x) + is_delete x ≡ total ds + is_new x
   unfolding decks_after
-  deed-total (Joins joined) h = let t = total_set ds joined (heads_on ds joined + 1) (omega arith) in omega arith
-  deed-total (Leaves left) h =
+  deed_total (Joins joined) h = let t = total_set ds joined (heads_on ds joined + 1) (omega arith) in omega arith
+  deed_total (Leaves left) h =
       let t = total_set ds left (heads_on ds left - 1) (omega arith) in
       let one = h.1 in
       omega arith
-  deed-total (Moves joined left) h = go (eqb joined left) refl
+  deed_total (Moves joined left) h = go (eqb joined left) refl
     where
       go : (t : Bool) → eqb joined left ≡ t
           → total (cond t ds (one_more (one_less ds left) joined)) + 0 ≡ total ds + 0
@@ -100,9 +100,9 @@ module _ (ds : List ℕ) (long : length ds ≡ deck_count) where
           omega arith
 
   -- no deck has more heads than it holds
-  pub deed-most : (x : Deed) → CanBeDone ds x → ((d : ℕ) → heads_on ds d ≤ deck_heads) → (d : ℕ)
+  pub deed_most : (x : Deed) → CanBeDone ds x → ((d : ℕ) → heads_on ds d ≤ deck_heads) → (d : ℕ)
       → heads_on (decks_after ds x) d ≤ deck_heads
-  deed-most x h most d = go x h (deed-deck x h d)
+  deed_most x h most d = go x h (deed_deck x h d)
     where
       joins : (e : ℕ) (t : Bool) → eqb d e ≡ t → heads_on ds e < deck_heads → heads_on ds d + cond t 1 0 ≤ deck_heads
       joins e true q l = let z : heads_on ds d ≡ heads_on ds e = ap (heads_on ds) (eqb-true d e q) in omega arith

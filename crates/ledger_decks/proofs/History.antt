@@ -29,7 +29,7 @@ use Rattle.ledger_decks.specs.History.{
   DecksAreArrivalsLessDepartures,
   DecksStayInBounds,
 }
-use Rattle.ledger_decks.proofs.DeckLaws.{deed-long, deed-deck, deed-total, deed-most}
+use Rattle.ledger_decks.proofs.DeckLaws.{deed_long, deed_deck, deed_total, deed_most}
 use Rattle.ledger_decks.proofs.Promises.{applied_can_be_done}
 
 tally_more : (f : Deed → ℕ) (xs : List Deed) (x : Deed) → tally f (xs ++ (x ∷ [])) ≡ tally f xs + f x
@@ -52,15 +52,15 @@ kept_after p k (fine o) can =
     let x = o.deed in
     let h = can o refl in
     record {
-      long = deed-long ds k.long x;
-      most = deed-most ds k.long x h k.most;
+      long = deed_long ds k.long x;
+      most = deed_most ds k.long x h k.most;
       all =
-          let t = deed-total ds k.long x h in
+          let t = deed_total ds k.long x h in
           let a = k.all in
           omega (arith, tally_more is_delete p.applied x, tally_more is_new p.applied x);
       each =
           λ d.
-          let t = deed-deck ds k.long x h d in
+          let t = deed_deck ds k.long x h d in
           let a = k.each d in
           omega (arith, tally_more (departs d) p.applied x, tally_more (arrives d) p.applied x);
     }

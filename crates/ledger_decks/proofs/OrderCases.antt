@@ -12,7 +12,7 @@ use Rattle.sim0mq.specs.Field.{Field, outline, after}
 use Rattle.sim0mq.proofs.Answers.{bind_fine}
 use Rattle.sim0mq_numbers.specs.Numbers.{number_at}
 use Rattle.senders_book.specs.Book.{alike}
-use Rattle.senders_book.proofs.StampLaws.{outline-within}
+use Rattle.senders_book.proofs.StampLaws.{outline_within}
 use Rattle.ledger_decks.specs.declared.Deed.TheVariants.{Joins, Moves, Leaves}
 use Rattle.ledger_decks.specs.Decks.{deck_count, deck_heads, heads_on, one_more, one_less, decks_after}
 use Rattle.ledger_decks.specs.Mustering.{
@@ -31,9 +31,9 @@ use Rattle.ledger_decks.specs.Mustering.{
 
 -- the type frame
 module _ (s : List ℕ) (f : Field) where
-  pub other-code : (f.code ≡ 9 → ⊥) → false ≡ is_muster s f
+  pub other_code : (f.code ≡ 9 → ⊥) → false ≡ is_muster s f
   unfolding is_muster
-  other-code d = rw (ne_eqb _ _ d) refl
+  other_code d = rw (ne_eqb _ _ d) refl
 
   module _ (c : f.code ≡ 9) where
     pub other-size : (f.size ≡ 5 → ⊥) → false ≡ is_muster s f
@@ -46,13 +46,13 @@ module _ (s : List ℕ) (f : Field) where
 
 -- new and delete, of one field
 module _ (ds s : List ℕ) (f : Field) where
-  pub join-code : (f.code ≡ 0 → ⊥) → refused 22 f.place ≡ joining ds s f
+  pub join_code : (f.code ≡ 0 → ⊥) → refused 22 f.place ≡ joining ds s f
   unfolding joining
-  join-code d = rw (ne_eqb _ _ d) refl
+  join_code d = rw (ne_eqb _ _ d) refl
 
-  pub leave-code : (f.code ≡ 0 → ⊥) → refused 22 f.place ≡ leaving ds s f
+  pub leave_code : (f.code ≡ 0 → ⊥) → refused 22 f.place ≡ leaving ds s f
   unfolding leaving
-  leave-code d = rw (ne_eqb _ _ d) refl
+  leave_code d = rw (ne_eqb _ _ d) refl
 
   module _ (c : f.code ≡ 0) (d : ℕ) (n : d ≡ number_at s f.first f.size) where
     pub join-deck : deck_count ≤ d → refused 29 f.place ≡ joining ds s f
@@ -82,9 +82,9 @@ module _ (ds s : List ℕ) (f : Field) where
 
 -- change, of two fields
 module _ (ds s : List ℕ) (f g : Field) where
-  pub move-code : (f.code ≡ 0 → ⊥) → refused 22 f.place ≡ moving ds s f g
+  pub move_code : (f.code ≡ 0 → ⊥) → refused 22 f.place ≡ moving ds s f g
   unfolding moving
-  move-code d = rw (ne_eqb _ _ d) refl
+  move_code d = rw (ne_eqb _ _ d) refl
 
   module _ (a : f.code ≡ 0) where
     pub move-code-2 : (g.code ≡ 0 → ⊥) → refused 22 g.place ≡ moving ds s f g
@@ -163,9 +163,9 @@ module _ (ds s : List ℕ) (f g : Field) where
 
 -- by status
 module _ (status : ℕ) (ds s : List ℕ) (f : Field) (second : Answer Field) where
-  pub deed-new : status ≡ 1 → joining ds s f ≡ deed_of status ds s f second
+  pub deed_new : status ≡ 1 → joining ds s f ≡ deed_of status ds s f second
   unfolding deed_of
-  deed-new e = rw (eq-eqb _ _ e) refl
+  deed_new e = rw (eq-eqb _ _ e) refl
 
   module _ (d : status ≡ 1 → ⊥) where
     pub deed-delete : (status ≡ 2 → ⊥) → leaving ds s f ≡ deed_of status ds s f second
@@ -191,21 +191,21 @@ fields_one x d = rw (ne_eqb x 2 d) refl
 
 -- the field after another
 module _ (s : List ℕ) where
-  pub follows-at : (f : Field) → outline s (f.first + f.size) ≡ following s (fine f)
+  pub follows_at : (f : Field) → outline s (f.first + f.size) ≡ following s (fine f)
   unfolding following after
-  follows-at f = refl
+  follows_at f = refl
 
-  pub follows-goes : (x : Answer Field) (f : Field) → x ≡ fine f → following s (fine f) ≡ following s x
-  follows-goes x f e = ap (following s) (sym e)
+  pub follows_goes : (x : Answer Field) (f : Field) → x ≡ fine f → following s (fine f) ≡ following s x
+  follows_goes x f e = ap (following s) (sym e)
 
-  pub follows-stops : (x : Answer Field) (k p : ℕ) → x ≡ refused k p → refused k p ≡ following s x
+  pub follows_stops : (x : Answer Field) (k p : ℕ) → x ≡ refused k p → refused k p ≡ following s x
   unfolding following
-  follows-stops x k p e = rw e refl
+  follows_stops x k p e = rw e refl
 
   -- it lies in the bytes
-  pub follows-within : (x : Answer Field) (f : Field) → following s x ≡ fine f → f.first + f.size ≤ length s
+  pub follows_within : (x : Answer Field) (f : Field) → following s x ≡ fine f → f.first + f.size ≤ length s
   unfolding following
-  follows-within x f q = let c = bind_fine x _ q in outline-within s _ f c.2
+  follows_within x f q = let c = bind_fine x _ q in outline_within s _ f c.2
 
 -- by the first field
 module _ (status : ℕ) (ds s : List ℕ) (first : Answer Field) where
@@ -220,9 +220,9 @@ module _ (status : ℕ) (ds s : List ℕ) (first : Answer Field) where
 
 -- the whole judgement
 module _ (ds s : List ℕ) (kind status n : ℕ) (first second : Answer Field) where
-  pub order-kind : (k p : ℕ) → outline s kind ≡ refused k p → refused k p ≡ ordering_at ds s kind status n first second
+  pub order_kind : (k p : ℕ) → outline s kind ≡ refused k p → refused k p ≡ ordering_at ds s kind status n first second
   unfolding ordering_at
-  order-kind k p e = rw e refl
+  order_kind k p e = rw e refl
 
   module _ (f : Field) (e : outline s kind ≡ fine f) where
     pub order_other : is_muster s f ≡ false → refused 20 kind ≡ ordering_at ds s kind status n first second
@@ -247,9 +247,9 @@ module _ (ds s : List ℕ) (kind status n : ℕ) (first second : Answer Field) w
 
 -- a deed that is done
 module _ (ds : List ℕ) where
-  pub joins-by : (joined : ℕ) → one_more ds joined ≡ decks_after ds (Joins joined)
+  pub joins_by : (joined : ℕ) → one_more ds joined ≡ decks_after ds (Joins joined)
   unfolding decks_after
-  joins-by joined = refl
+  joins_by joined = refl
 
   pub leaves_by : (left : ℕ) → one_less ds left ≡ decks_after ds (Leaves left)
   unfolding decks_after

@@ -60,7 +60,7 @@ use Rattle.ledger_decks.specs.Promises.{
   RefusedChangesNothing,
 }
 use Rattle.ledger_decks.proofs.OrderCases.{fields_two, stays}
-use Rattle.ledger_decks.proofs.DeckLaws.{deed-deck, deed-total}
+use Rattle.ledger_decks.proofs.DeckLaws.{deed_deck, deed_total}
 use Rattle.ledger_decks.proofs.FrameLaws.{status_byte}
 pub use Rattle.ledger_decks.proofs.FrameLaws.{deck_is_the_byte, fields_follow_the_frames}
 pub use Rattle.ledger_decks.proofs.RefusedLaws.{
@@ -71,10 +71,10 @@ pub use Rattle.ledger_decks.proofs.RefusedLaws.{
 
 -- ---- mustering, once reading has answered
 module _ (ds : List ℕ) (b : List Sender) (s : List ℕ) where
-  musters-by : (m : Reading) → reading no_table s ≡ fine m
+  musters_by : (m : Reading) → reading no_table s ≡ fine m
       → mustering ds b s ≡ (ordering ds s m >>= (λ (d : Deed). entering d (taking b s)))
   unfolding mustering
-  musters-by m e = go (reading no_table s) e
+  musters_by m e = go (reading no_table s) e
     where
       go : (x : Answer Reading) → x ≡ fine m
           → (x >>= (λ (m : Reading). ordering ds s m >>= (λ (d : Deed). entering d (taking b s))))
@@ -91,14 +91,14 @@ reading_comes_first ds b s k p e = go (reading no_table s) e
 
 pub ledger_before_book : LedgerBeforeBook
 ledger_before_book ds b s m k p e q =
-    musters-by ds b s m e ∙ ap (λ (a : Answer Deed). a >>= (λ (d : Deed). entering d (taking b s))) q
+    musters_by ds b s m e ∙ ap (λ (a : Answer Deed). a >>= (λ (d : Deed). entering d (taking b s))) q
 
 -- ---- a deed that is granted can be done
 module _ (ds s : List ℕ) where
-  new-into : (f : Field) (x : Deed) → joining ds s f ≡ fine x
+  new_into : (f : Field) (x : Deed) → joining ds s f ≡ fine x
       → (f.code ≡ 0) × (x ≡ Joins (value_in s f)) × CanBeDone ds x
   unfolding joining
-  new-into f x e =
+  new_into f x e =
       let a = guarded (eqb f.code 0) _ _ _ e in
       let b = guarded (ltb (value_in s f) deck_count) _ _ _ a.1 in
       let c = guarded (has_room ds (value_in s f)) _ _ _ b.1 in (
@@ -107,16 +107,16 @@ module _ (ds s : List ℕ) where
         subst (CanBeDone ds) (fine_eq c.1) (ltb-true _ _ b.0, ltb-true _ _ c.0),
       )
 
-  new-back : (f : Field) (x : Deed) → f.code ≡ 0 → x ≡ Joins (value_in s f) → CanBeDone ds x → joining ds s f ≡ fine x
+  new_back : (f : Field) (x : Deed) → f.code ≡ 0 → x ≡ Joins (value_in s f) → CanBeDone ds x → joining ds s f ≡ fine x
   unfolding joining
-  new-back f x c e can =
+  new_back f x c e can =
       let h : CanBeDone ds (Joins (value_in s f)) = subst (CanBeDone ds) e can in
       rw (e, eq-eqb _ _ c, lt-ltb _ _ h.0, lt-ltb _ _ h.1) refl
 
-  delete-into : (f : Field) (x : Deed) → leaving ds s f ≡ fine x
+  delete_into : (f : Field) (x : Deed) → leaving ds s f ≡ fine x
       → (f.code ≡ 0) × (x ≡ Leaves (value_in s f)) × CanBeDone ds x
   unfolding leaving
-  delete-into f x e =
+  delete_into f x e =
       let a = guarded (eqb f.code 0) _ _ _ e in
       let b = guarded (ltb (value_in s f) deck_count) _ _ _ a.1 in
       let c = guarded (ltb 0 (heads_on ds (value_in s f))) _ _ _ b.1 in (
@@ -125,17 +125,17 @@ module _ (ds s : List ℕ) where
         subst (CanBeDone ds) (fine_eq c.1) (ltb-true _ _ b.0, ltb-true _ _ c.0),
       )
 
-  delete-back : (f : Field) (x : Deed) → f.code ≡ 0 → x ≡ Leaves (value_in s f) → CanBeDone ds x
+  delete_back : (f : Field) (x : Deed) → f.code ≡ 0 → x ≡ Leaves (value_in s f) → CanBeDone ds x
       → leaving ds s f ≡ fine x
   unfolding leaving
-  delete-back f x c e can =
+  delete_back f x c e can =
       let h : CanBeDone ds (Leaves (value_in s f)) = subst (CanBeDone ds) e can in
       rw (e, eq-eqb _ _ c, lt-ltb _ _ h.0, lt-ltb 0 _ h.1) refl
 
-  change-into : (f g : Field) (x : Deed) → moving ds s f g ≡ fine x
+  change_into : (f g : Field) (x : Deed) → moving ds s f g ≡ fine x
       → (f.code ≡ 0) × (g.code ≡ 0) × (x ≡ Moves (value_in s f) (value_in s g)) × CanBeDone ds x
   unfolding moving
-  change-into f g x e =
+  change_into f g x e =
       let a = guarded (eqb f.code 0) _ _ _ e in
       let b = guarded (eqb g.code 0) _ _ _ a.1 in
       let c = guarded (ltb (value_in s f) deck_count) _ _ _ b.1 in
@@ -148,10 +148,10 @@ module _ (ds s : List ℕ) where
         subst (CanBeDone ds) (fine_eq r.1) (ltb-true _ _ c.0, ltb-true _ _ d.0, ltb-true _ _ h.0, r.0),
       )
 
-  change-back : (f g : Field) (x : Deed) → f.code ≡ 0 → g.code ≡ 0 → x ≡ Moves (value_in s f) (value_in s g)
+  change_back : (f g : Field) (x : Deed) → f.code ≡ 0 → g.code ≡ 0 → x ≡ Moves (value_in s f) (value_in s g)
       → CanBeDone ds x → moving ds s f g ≡ fine x
   unfolding moving
-  change-back f g x c d e can =
+  change_back f g x c d e can =
       let h : CanBeDone ds (Moves (value_in s f) (value_in s g)) = subst (CanBeDone ds) e can in
       rw (
         e,
@@ -163,37 +163,37 @@ module _ (ds s : List ℕ) where
         h.3,
       ) refl
 
-  deed-can : (status : ℕ) (f : Field) (second : Answer Field) (x : Deed) → deed_of status ds s f second ≡ fine x
+  deed_can : (status : ℕ) (f : Field) (second : Answer Field) (x : Deed) → deed_of status ds s f second ≡ fine x
       → CanBeDone ds x
   unfolding deed_of
-  deed-can status f second x = go (eqb status 1) (eqb status 2)
+  deed_can status f second x = go (eqb status 1) (eqb status 2)
     where
       go : (t u : Bool)
           → cond t (joining ds s f) (cond u (second >>= (λ (g : Field). moving ds s f g)) (leaving ds s f)) ≡ fine x
           → CanBeDone ds x
-      go true u e = (new-into f x e).2
-      go false true e = let g = bind_fine second _ e in (change-into f g.0 x g.2).3
-      go false false e = (delete-into f x e).2
+      go true u e = (new_into f x e).2
+      go false true e = let g = bind_fine second _ e in (change_into f g.0 x g.2).3
+      go false false e = (delete_into f x e).2
 
-  pub ordering-can : (kind status n : ℕ) (first second : Answer Field) (x : Deed)
+  pub ordering_can : (kind status n : ℕ) (first second : Answer Field) (x : Deed)
       → ordering_at ds s kind status n first second ≡ fine x → CanBeDone ds x
   unfolding ordering_at deed_for
-  ordering-can kind status n first second x e =
+  ordering_can kind status n first second x e =
       let a = bind_fine (outline s kind) _ e in
       let b = guarded (is_muster s a.0) _ _ _ a.2 in
       let c = bind_fine (outline s status) _ b.1 in
       let d = guarded (eqb n (fields_for (value_in s c.0))) _ _ _ c.2 in
       let f = bind_fine first _ d.1 in
-      deed-can (value_in s c.0) f.0 second x f.2
+      deed_can (value_in s c.0) f.0 second x f.2
 
 pub new_exactly : NewExactly
-new_exactly ds s f x = (new-into ds s f x, λ h. new-back ds s f x h.0 h.1 h.2)
+new_exactly ds s f x = (new_into ds s f x, λ h. new_back ds s f x h.0 h.1 h.2)
 
 pub change_exactly : ChangeExactly
-change_exactly ds s f g x = (change-into ds s f g x, λ h. change-back ds s f g x h.0 h.1 h.2 h.3)
+change_exactly ds s f g x = (change_into ds s f g x, λ h. change_back ds s f g x h.0 h.1 h.2 h.3)
 
 pub delete_exactly : DeleteExactly
-delete_exactly ds s f x = (delete-into ds s f x, λ h. delete-back ds s f x h.0 h.1 h.2)
+delete_exactly ds s f x = (delete_into ds s f x, λ h. delete_back ds s f x h.0 h.1 h.2)
 
 -- ---- what is applied
 record Applied (ds : List ℕ) (b : List Sender) (s : List ℕ) (o : Order) : Type 0 where
@@ -215,7 +215,7 @@ applied_is_taken ds b s o e = (applied ds b s o e).takes
 
 pub applied_can_be_done : AppliedCanBeDone
 unfolding ordering
-applied_can_be_done ds b s o e = ordering-can ds s _ _ _ _ _ o.deed (applied ds b s o e).orders
+applied_can_be_done ds b s o e = ordering_can ds s _ _ _ _ _ o.deed (applied ds b s o e).orders
 
 -- ---- frames 4 and 6 of an accepted message
 judged_so : (ds s : List ℕ) (m : Reading) (kind stat n : ℕ) (f g : Field) → outline s kind ≡ fine f
@@ -261,9 +261,9 @@ fields_some x = go (eqb x 2)
 
 module _ (ds s : List ℕ) (n : ℕ) (first first' second second' : Answer Field) (same : 1 ≤ n → first ≡ first')
     (same' : 2 ≤ n → second ≡ second') where
-  second-same : (x : ℕ) → n ≡ fields_for x → (f : Field) → deed_of x ds s f second ≡ deed_of x ds s f second'
+  second_same : (x : ℕ) → n ≡ fields_for x → (f : Field) → deed_of x ds s f second ≡ deed_of x ds s f second'
   unfolding deed_of
-  second-same x e f = go (eqb x 2) refl
+  second_same x e f = go (eqb x 2) refl
     where
       go : (t : Bool) → eqb x 2 ≡ t → deed_of x ds s f second ≡ deed_of x ds s f second'
       go true q =
@@ -271,12 +271,12 @@ module _ (ds s : List ℕ) (n : ℕ) (first first' second second' : Answer Field
           ap (deed_of x ds s f) (same' (omega arith))
       go false q = rw q refl
 
-  deed-same : (x : ℕ) → n ≡ fields_for x → deed_for x ds s first second ≡ deed_for x ds s first' second'
+  deed_same : (x : ℕ) → n ≡ fields_for x → deed_for x ds s first second ≡ deed_for x ds s first' second'
   unfolding deed_for
-  deed-same x e =
+  deed_same x e =
       let some = fields_some x in
       ap (λ (a : Answer Field). a >>= (λ (f : Field). deed_of x ds s f second)) (same (omega arith))
-      ∙ bind_same first' _ _ (second-same x e)
+      ∙ bind_same first' _ _ (second_same x e)
 
   order_same : (kind status : ℕ)
       → ordering_at ds s kind status n first second ≡ ordering_at ds s kind status n first' second'
@@ -288,7 +288,7 @@ module _ (ds s : List ℕ) (n : ℕ) (first first' second second' : Answer Field
       (λ m.
       bind_same (outline s status) _ _
       (λ g.
-      guard_same (eqb n (fields_for (value_in s g))) 21 kind _ _ (λ e. deed-same (value_in s g) (eqb-true _ _ e)))))
+      guard_same (eqb n (fields_for (value_in s g))) 21 kind _ _ (λ e. deed_same (value_in s g) (eqb-true _ _ e)))))
 
 pub order_framed : (ds s : List ℕ) (m : Reading) → reading no_table s ≡ fine m
     → ordering_framed ds s m.frames (length m.fields) ≡ ordering ds s m
@@ -303,36 +303,36 @@ frames_are_enough ds b s m e =
     ap (λ (a : Answer Entry). ordering_framed ds s m.frames (length m.fields) >>= (λ (d : Deed). entering d a))
     (Book.frames_are_enough b s m e)
     ∙ ap (λ (a : Answer Deed). a >>= (λ (d : Deed). entering d (taking b s))) (order_framed ds s m e)
-    ∙ sym (musters-by ds b s m e)
+    ∙ sym (musters_by ds b s m e)
 
 -- ---- a change
 module _ (ds : List ℕ) (joined left : ℕ) (long : length ds ≡ deck_count) (can : CanBeDone ds (Moves joined left)) where
   abbrev after : List ℕ
   after = decks_after ds (Moves joined left)
 
-  one-head-moves : OneHeadMoves ds after joined left
-  one-head-moves =
+  one_head_moves : OneHeadMoves ds after joined left
+  one_head_moves =
       record {
         off =
             λ d.
-            let e = deed-deck ds long (Moves joined left) can left in
+            let e = deed_deck ds long (Moves joined left) can left in
             rw (eq-eqb left left refl, ne_eqb left joined (λ q. d (sym q))) at e ∙ omega arith;
         onto =
             λ d.
-            let e = deed-deck ds long (Moves joined left) can joined in
+            let e = deed_deck ds long (Moves joined left) can joined in
             omega arith ∙ rw (eq-eqb joined joined refl, ne_eqb joined left d) at e;
         others =
             λ d a b.
-            let e = deed-deck ds long (Moves joined left) can d in
+            let e = deed_deck ds long (Moves joined left) can d in
             omega arith ∙ (rw (ne_eqb d left b, ne_eqb d joined a) at e ∙ omega arith);
-        same = omega arith ∙ (deed-total ds long (Moves joined left) can ∙ omega arith);
+        same = omega arith ∙ (deed_total ds long (Moves joined left) can ∙ omega arith);
       }
 
 pub change_moves_one_head : ChangeMovesOneHead
 change_moves_one_head ds b s o joined left long e q =
     let can = subst (CanBeDone ds) q (applied_can_be_done ds b s o e) in
     subst (λ (l : List ℕ). OneHeadMoves ds l joined left)
-    (ap (decks_after ds) (sym q) ∙ ap (decks_mustered ds) (sym e)) (one-head-moves ds joined left long can)
+    (ap (decks_after ds) (sym q) ∙ ap (decks_mustered ds) (sym e)) (one_head_moves ds joined left long can)
 
 pub change_to_itself : ChangeToItself
 change_to_itself ds b s o d e q =

@@ -21,13 +21,13 @@ use Rattle.ledger_decks.specs.Promises.{
   ChangeRefusedExactly,
 }
 use Rattle.ledger_decks.proofs.OrderCases.{
-  join-code,
+  join_code,
   join-deck,
   join-full,
-  leave-code,
+  leave_code,
   leave-deck,
   leave_none,
-  move-code,
+  move_code,
   move-code-2,
   move-deck,
   move-deck-2,
@@ -51,9 +51,9 @@ neither true b e = absurd (false≢true (sym e))
 neither false b e = (refl, e)
 
 module _ (ds s : List ℕ) (f : Field) (k p : ℕ) where
-  new-into : joining ds s f ≡ refused k p → NewRefused ds s f k p
+  new_into : joining ds s f ≡ refused k p → NewRefused ds s f k p
   unfolding joining
-  new-into e =
+  new_into e =
       ⊎_elim (λ x. inl ((x.1, x.2), eqb-false _ _ x.0))
       (λ a.
       let code = eqb-true _ _ a.0 in
@@ -65,15 +65,15 @@ module _ (ds s : List ℕ) (f : Field) (k p : ℕ) where
       (fault (ltb (value_in s f) deck_count) 29 _ k p _ a.1))
       (fault (eqb f.code 0) 22 _ k p _ e)
 
-  new-back : NewRefused ds s f k p → joining ds s f ≡ refused k p
-  new-back =
-      ⊎_elim (λ x. at_place k p x.0.0 x.0.1 (join-code ds s f x.1))
+  new_back : NewRefused ds s f k p → joining ds s f ≡ refused k p
+  new_back =
+      ⊎_elim (λ x. at_place k p x.0.0 x.0.1 (join_code ds s f x.1))
       (⊎_elim (λ x. at_place k p x.0.0 x.0.1 (join-deck ds s f x.1 _ refl x.2))
       (λ x. at_place k p x.0.0 x.0.1 (join-full ds s f x.1.0 _ refl x.1.1 x.2)))
 
-  delete-into : leaving ds s f ≡ refused k p → DeleteRefused ds s f k p
+  delete_into : leaving ds s f ≡ refused k p → DeleteRefused ds s f k p
   unfolding leaving
-  delete-into e =
+  delete_into e =
       ⊎_elim (λ x. inl ((x.1, x.2), eqb-false _ _ x.0))
       (λ a.
       let code = eqb-true _ _ a.0 in
@@ -85,16 +85,16 @@ module _ (ds s : List ℕ) (f : Field) (k p : ℕ) where
       (fault (ltb (value_in s f) deck_count) 29 _ k p _ a.1))
       (fault (eqb f.code 0) 22 _ k p _ e)
 
-  delete-back : DeleteRefused ds s f k p → leaving ds s f ≡ refused k p
-  delete-back =
-      ⊎_elim (λ x. at_place k p x.0.0 x.0.1 (leave-code ds s f x.1))
+  delete_back : DeleteRefused ds s f k p → leaving ds s f ≡ refused k p
+  delete_back =
+      ⊎_elim (λ x. at_place k p x.0.0 x.0.1 (leave_code ds s f x.1))
       (⊎_elim (λ x. at_place k p x.0.0 x.0.1 (leave-deck ds s f x.1 _ refl x.2))
       (λ x. at_place k p x.0.0 x.0.1 (leave_none ds s f x.1.0 _ refl x.1.1 x.2)))
 
 module _ (ds s : List ℕ) (f g : Field) (k p : ℕ) where
-  change-into : moving ds s f g ≡ refused k p → ChangeRefused ds s f g k p
+  change_into : moving ds s f g ≡ refused k p → ChangeRefused ds s f g k p
   unfolding moving
-  change-into e =
+  change_into e =
       ⊎_elim (λ x. inl ((x.1, x.2), eqb-false _ _ x.0))
       (λ a.
       let one = eqb-true _ _ a.0 in
@@ -127,9 +127,9 @@ module _ (ds s : List ℕ) (f g : Field) (k p : ℕ) where
       (fault (eqb g.code 0) 22 _ k p _ a.1))
       (fault (eqb f.code 0) 22 _ k p _ e)
 
-  change-back : ChangeRefused ds s f g k p → moving ds s f g ≡ refused k p
-  change-back =
-      ⊎_elim (λ x. at_place k p x.0.0 x.0.1 (move-code ds s f g x.1))
+  change_back : ChangeRefused ds s f g k p → moving ds s f g ≡ refused k p
+  change_back =
+      ⊎_elim (λ x. at_place k p x.0.0 x.0.1 (move_code ds s f g x.1))
       (⊎_elim (λ x. at_place k p x.0.0 x.0.1 (move-code-2 ds s f g x.1 x.2))
       (⊎_elim (λ x. at_place k p x.0.0 x.0.1 (move-deck ds s f g x.1 x.2 _ refl x.3))
       (⊎_elim
@@ -144,10 +144,10 @@ module _ (ds s : List ℕ) (f g : Field) (k p : ℕ) where
       (move-full ds s f g x.1.0 x.2.0 _ refl x.1.1 _ refl x.2.1 x.3 x.4 x.5))))))
 
 pub new_refused_exactly : NewRefusedExactly
-new_refused_exactly ds s f k p = (new-into ds s f k p, new-back ds s f k p)
+new_refused_exactly ds s f k p = (new_into ds s f k p, new_back ds s f k p)
 
 pub delete_refused_exactly : DeleteRefusedExactly
-delete_refused_exactly ds s f k p = (delete-into ds s f k p, delete-back ds s f k p)
+delete_refused_exactly ds s f k p = (delete_into ds s f k p, delete_back ds s f k p)
 
 pub change_refused_exactly : ChangeRefusedExactly
-change_refused_exactly ds s f g k p = (change-into ds s f g k p, change-back ds s f g k p)
+change_refused_exactly ds s f g k p = (change_into ds s f g k p, change_back ds s f g k p)

@@ -1,7 +1,7 @@
 // The ledger's judgement of a muster message: what it does, or the refusal.
 ghost use Rattle.std.specs.Prelude.{◌≡◌, ◌+◌, ◌≤◌, length};
 ghost use Rattle.sim0mq.specs.Answer.{fine, refused as refusal};
-ghost use Rattle.sim0mq.specs.Field.{outline as outlineOf};
+ghost use Rattle.sim0mq.specs.Field.{outline as outline_of};
 ghost use Rattle.reading_fields.specs.Items.{seen, fielded};
 ghost use Rattle.ledger_decks.specs.Mustering.{is_muster, fields_for, joining, moving, leaving, deed_of, following};
 ghost use Rattle.ledger_judging.specs.Judging.{ordered, deed_after, ordering_by};
@@ -123,7 +123,7 @@ fn field_after(s: &[u8], f: Field) -> Fielded
 
 // The outline of the first field, where frame 7 stands at `count`.
 fn first_field(s: &[u8], count: usize) -> Fielded
-    ensures { fielded result ≡ following s.now (outlineOf s.now count) }
+    ensures { fielded result ≡ following s.now (outline_of s.now count) }
 {
     match outline(s, count) {
         Fielded::Refused(r) => Fielded::Refused(r),

@@ -18,8 +18,8 @@ use Rattle.recordings_format.specs.Judge.{Index, index, stretch, stretches_from,
 use Rattle.recordings_format.proofs.IndexLaws.{total_more}
 use Rattle.recordings_index.specs.declared.Trailer.{Trailer}
 use Rattle.recordings.specs.Recordings.{Stated, lengths_in, entry_in, size_of, count_of}
-use Rattle.recordings.proofs.StatedLaws.{stated-lengths, stated-many}
-use Rattle.recordings.proofs.OpenCases.{Judging, judging-start, judging-refused, judging-turn, judging-end}
+use Rattle.recordings.proofs.StatedLaws.{stated_lengths, stated_many}
+use Rattle.recordings.proofs.OpenCases.{Judging, judging_start, judging-refused, judging-turn, judging-end}
 use Rattle.senders_book.specs.Book.{empty_book}
 use Rattle.senders_book.specs.declared.Book.{Book}
 use Rattle.ledger_decks.specs.declared.Deed.{Deed}
@@ -70,11 +70,11 @@ pub record Reckons (s : List ℕ) (t : Trailer) (k at applied : ℕ) (l : Ledger
       ≡ mustered point (stretches s at (drop k (lengths_in (index s))))
 
 module _ {s : List ℕ} {t : Trailer} (h : Stated s t) where
-  pub reckons-start : (l : Ledger) (b : Book) → l.heads ≡ (start empty_book).decks → b.senders ≡ empty_book → Reckons s t 0 0 0 l b
+  pub reckons_start : (l : Ledger) (b : Book) → l.heads ≡ (start empty_book).decks → b.senders ≡ empty_book → Reckons s t 0 0 0 l b
   unfolding total
-  reckons-start l b e f =
+  reckons_start l b e f =
       record {
-        judging = judging-start h;
+        judging = judging_start h;
         place = refl;
         point = start empty_book;
         decks = sym e;
@@ -85,7 +85,7 @@ module _ {s : List ℕ} {t : Trailer} (h : Stated s t) where
       }
 
   many : length (lengths_in (index s)) ≡ t.entries
-  many = ap length (stated-lengths h) ∙ stated-many h
+  many = ap length (stated_lengths h) ∙ stated_many h
 
   module _ {k at applied : ℕ} {l : Ledger} {b : Book} (u : Reckons s t k at applied l b) where
     abbrev lengths : List ℕ

@@ -21,7 +21,7 @@ use Rattle.reading.specs.Answers.{answered}
 use Rattle.reading.proofs.SaidLaws.{said_fine}
 use Rattle.recordings_format.specs.Judge.{stretch}
 use Rattle.recordings.specs.Recordings.{size_of}
-use Rattle.recordings.proofs.StretchCases.{stretch-over, stretch-accepted, stretch-refused}
+use Rattle.recordings.proofs.StretchCases.{stretch_over, stretch-accepted, stretch-refused}
 use Rattle.senders_book.specs.declared.Sender.{Sender}
 use Rattle.senders_book.specs.declared.Book.{Book}
 use Rattle.ledger_decks.specs.declared.Ledger.{Ledger}
@@ -54,13 +54,13 @@ fine_is (fine m) n q = (m, refl)
 fine_is (refused j v) n q = absurd (not_fine (sym q))
 
 module _ (l : Ledger) (b : Book) (a : S.Answer M.Reading) (o : S.Answer Order) where
-  turn-stops : (k p : ℕ) → refused k p ≡ size_of a → stopped_by k p l b ≡ turned l b a o
+  turn_stops : (k p : ℕ) → refused k p ≡ size_of a → stopped_by k p l b ≡ turned l b a o
   unfolding turned
-  turn-stops k p q = sym (ap (λ (x : S.Answer M.Reading). turned l b x o) (refused_is a k p q))
+  turn_stops k p q = sym (ap (λ (x : S.Answer M.Reading). turned l b x o) (refused_is a k p q))
 
-  turn-goes : (n : ℕ) → fine n ≡ size_of a → (x : S.Answer Order) → x ≡ o → turn_of (after_mustering l b x) ≡ turned l b a o
+  turn_goes : (n : ℕ) → fine n ≡ size_of a → (x : S.Answer Order) → x ≡ o → turn_of (after_mustering l b x) ≡ turned l b a o
   unfolding turned
-  turn-goes n q x e =
+  turn_goes n q x e =
       let m = fine_is a n q in
       ap (λ (y : S.Answer Order). turn_of (after_mustering l b y)) e
       ∙ go m.0 o
@@ -95,8 +95,8 @@ module _ (l : Ledger) (b : Book) (most : ℕ) (s : List ℕ) (at n : ℕ) (asked
   abbrev came : Turn → Type 0
   came r = r ≡ turned l b (stretch most s at n) order
 
-  pub part-over : most < n → came (stopped_by 8 at l b)
-  part-over h = turn-stops l b (stretch most s at n) order 8 at (stretch-over most s at n asked h)
+  pub part_over : most < n → came (stopped_by 8 at l b)
+  part_over h = turn_stops l b (stretch most s at n) order 8 at (stretch_over most s at n asked h)
 
   module _ (fits : n ≤ most) (a : Answer) (told : a ≡ answered (reading no_table (take (at + n - at) (drop at s)))) where
     said : (answered (reading no_table (take (at + n - at) (drop at s)))).said ≡ a.said
@@ -104,7 +104,7 @@ module _ (l : Ledger) (b : Book) (most : ℕ) (s : List ℕ) (at n : ℕ) (asked
 
     pub part-refused : (r : Refusal) → a.said ≡ Reading-as-Refused r → came (stopped_by r.number (at + r.place) l b)
     part-refused r e =
-        turn-stops l b (stretch most s at n) order r.number (at + r.place)
+        turn_stops l b (stretch most s at n) order r.number (at + r.place)
         (stretch-refused most s at n asked fits r (said ∙ e))
 
     pub part-accepted : (f : Found) → a.said ≡ Accepted f
@@ -113,5 +113,5 @@ module _ (l : Ledger) (b : Book) (most : ℕ) (s : List ℕ) (at n : ℕ) (asked
         (after_mustering l b
         (mustering_framed l.heads b.senders (take (at + n - at) (drop at s)) (map shown a.frames) f.fields)))
     part-accepted f e =
-        turn-goes l b (stretch most s at n) order f.length (stretch-accepted most s at n asked fits f (said ∙ e)) _
+        turn_goes l b (stretch most s at n) order f.length (stretch-accepted most s at n asked fits f (said ∙ e)) _
         (framed_part l.heads b.senders s at n a f told e)

@@ -21,7 +21,7 @@ use Rattle.sim0mq.proofs.HeaderLaws.{header_sound}
 use Rattle.reading_payload.specs.Parts.{payload_steps}
 use Rattle.reading_payload.specs.Kept.{kept_of}
 use Rattle.reading_payload.proofs.PayloadCases.{at-stopped, at-taken}
-use Rattle.reading_payload.proofs.KeptLaws.{payload-many, kept_rows}
+use Rattle.reading_payload.proofs.KeptLaws.{payload_many, kept_rows}
 use Rattle.sim0mq_numbers.specs.Numbers.{Below}
 use Rattle.sim0mq.specs.declared.Judged.{Judged}
 use Rattle.sim0mq.specs.declared.Judged.TheVariants.{Accepted as Judged-as-Accepted, Refused as Judged-as-Refused}
@@ -30,7 +30,7 @@ use Rattle.reading_header.specs.Frames.{framed}
 use Rattle.reading.specs.declared.Reading.TheVariants.{Accepted}
 use Rattle.reading.specs.Rows.{rows_after, filled, Fillable}
 use Rattle.reading_front.specs.Front.{front_of}
-use Rattle.reading_front.proofs.FrontCases.{reading-closed, open-parts, open-within, open-reading, open-refused, open-accepted}
+use Rattle.reading_front.proofs.FrontCases.{reading_closed, open-parts, open-within, open-reading, open-refused, open-accepted}
 use Rattle.reading.specs.Answers.{answered, refused_at, answer_of}
 
 -- the eight frames, and the steps of fields that are moved
@@ -50,12 +50,12 @@ below_most n (Judged-as-Refused r) h b = tt
 
 -- where what stands before the payload is refused
 module _ (lent : M.Lent) (s : List ℕ) where
-  pub closed-answer : (k p : ℕ) → front_of lent s ≡ refused k p → refused_at k p ≡ answered (reading lent s)
-  closed-answer k p e = sym (ap answered (reading-closed lent s k p e))
+  pub closed_answer : (k p : ℕ) → front_of lent s ≡ refused k p → refused_at k p ≡ answered (reading lent s)
+  closed_answer k p e = sym (ap answered (reading_closed lent s k p e))
 
-  pub closed-table : (t : List ℕ) (k p : ℕ) → front_of lent s ≡ refused k p → t ≡ table_after t (reading lent s)
+  pub closed_table : (t : List ℕ) (k p : ℕ) → front_of lent s ≡ refused k p → t ≡ table_after t (reading lent s)
   unfolding table_after
-  closed-table t k p e = sym (ap (table_after t) (reading-closed lent s k p e))
+  closed_table t k p e = sym (ap (table_after t) (reading_closed lent s k p e))
 
   -- where it is not
   module _ (h : Header) (a : front_of lent s ≡ fine h) where
@@ -80,7 +80,7 @@ module _ (lent : M.Lent) (s : List ℕ) where
           go (refused k w) e = ap (answer_of (length s) frames n) e ∙ sym (ap answered (open-refused lent s h a n next p q k w e))
           go (fine k) e =
               let r = open-accepted lent s h a n next p q k e in
-              let many : n ≡ length (map (moved h.next) r.0) = sym (length-map r.0 (moved h.next) ∙ payload-many (drop next s) n r.0 r.1) in
+              let many : n ≡ length (map (moved h.next) r.0) = sym (length-map r.0 (moved h.next) ∙ payload_many (drop next s) n r.0 r.1) in
               let counted : 8 + k ≡ steps_of (reading_of s h r.0) = counts r.0 k r.3 in
               ap (answer_of (length s) frames n) e
               ∙ (λ i. record { said = Accepted (record { length = length s; fields = many i; steps = counted i }); frames = f i })
@@ -102,23 +102,23 @@ rows_long (f ∷ fs) = omega (arith, length-append (row f) (rows fs), rows_long 
 
 -- the table once the payload is judged: the kept rows are copied where it is accepted
 module _ (s : List ℕ) (next n kept table : ℕ) (h : Fillable s next n kept table) (t : List ℕ) where
-  pub fill-refused : (k w : ℕ) → payload_steps s next n ≡ refused k w → t ≡ filled s next n t
+  pub fill_refused : (k w : ℕ) → payload_steps s next n ≡ refused k w → t ≡ filled s next n t
   unfolding filled rows_after
-  fill-refused k w e = go (payload (drop next s) n) (at-stopped s next n h.within k w e)
+  fill_refused k w e = go (payload (drop next s) n) (at-stopped s next n h.within k w e)
     where
       go : (b : S.Answer (List Field)) → part_at next b ≡ refused k w → t ≡ rows_after t next b
       go (fine fs) e = absurd (not_fine (sym e))
       go (refused r v) e = refl
 
-  pub fill-accepted : (k : ℕ) (l m t₁ : List ℕ) → payload_steps s next n ≡ fine k → kept ≡ length l → m ≡ kept_of s next n 0 l
+  pub fill_accepted : (k : ℕ) (l m t₁ : List ℕ) → payload_steps s next n ≡ fine k → kept ≡ length l → m ≡ kept_of s next n 0 l
       → t₁ ≡ stored t (take (row_size * n) m) → t₁ ≡ filled s next n t
   unfolding filled rows_after stored
-  fill-accepted k l m t₁ e long d c =
+  fill_accepted k l m t₁ e long d c =
       let a = at-taken s next n h.within k e in
       let fs = map (moved next) a.0 in
       let keeps = h.keeps in
       let kept-is : m ≡ rows fs ++ drop (length (rows fs)) l = d ∙ kept_rows s next n a.0 l a.1 h.short (omega arith) in
-      let count : length fs ≡ n = length-map a.0 (moved next) ∙ payload-many (drop next s) n a.0 a.1 in
+      let count : length fs ≡ n = length-map a.0 (moved next) ∙ payload_many (drop next s) n a.0 a.1 in
       let size : length (rows fs) ≡ row_size * n = rows_long fs ∙ ap (λ (j : ℕ). row_size * j) count in
       let front : take (row_size * n) m ≡ rows fs = ap (take (row_size * n)) kept-is ∙ take_at (rows fs) (drop (length (rows fs)) l) (row_size * n) size in
       c ∙ ap (λ (r : List ℕ). r ++ drop (length r) t) front ∙ sym (ap (rows_after t next) a.1)

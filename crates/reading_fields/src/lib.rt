@@ -1,6 +1,6 @@
 // A payload field, in outline.
 ghost use Rattle.std.specs.Prelude.{◌≡◌};
-ghost use Rattle.sim0mq.specs.Field.{outline as outlineOf};
+ghost use Rattle.sim0mq.specs.Field.{outline as outline_of};
 ghost use Rattle.reading_fields.specs.Items.{fielded};
 
 use reading_heads::{Headed, head};
@@ -28,7 +28,7 @@ pub enum Fielded {
 
 // The outline of the field at `at`: all but its Booleans is judged.
 pub fn outline(s: &[u8], at: usize) -> Fielded
-    ensures { fielded result ≡ outlineOf s.now at }
+    ensures { fielded result ≡ outline_of s.now at }
 {
     match head(s, at) {
         Headed::Refused(r) => Fielded::Refused(r),

@@ -40,18 +40,18 @@ enough_table r n = room_test n row_size r row_size refl (lit< tt) ∙ ap (λ (k 
 
 -- what a header's answer says
 module _ (frames : List Frame) where
-  pub told-refused : (a : S.Answer Header) (k p : ℕ) → (told frames a).said ≡ Said-as-Refused (record { number = k; place = p }) → a ≡ refused k p
-  told-refused (fine h) k p e = absurd (let z : ◌≡◌ {A = ℕ} 0 1 = cc in omega arith)
-  told-refused (refused r w) k p e =
+  pub told_refused : (a : S.Answer Header) (k p : ℕ) → (told frames a).said ≡ Said-as-Refused (record { number = k; place = p }) → a ≡ refused k p
+  told_refused (fine h) k p e = absurd (let z : ◌≡◌ {A = ℕ} 0 1 = cc in omega arith)
+  told_refused (refused r w) k p e =
       let same : ◌≡◌ {A = Refusal} (record { number = r; place = w }) (record { number = k; place = p }) = cc in
       ap (λ (x : Refusal). refused x.number x.place) same
 
-  pub told-accepted : (a : S.Answer Header) (n e : ℕ) → (told frames a).said ≡ Said-as-Accepted (record { fields = n; next = e })
+  pub told_accepted : (a : S.Answer Header) (n e : ℕ) → (told frames a).said ≡ Said-as-Accepted (record { fields = n; next = e })
       → (h : Header) × (a ≡ fine h) × (h.fields ≡ n) × (h.next ≡ e) × ((told frames a).frames ≡ map framed h.frames)
-  told-accepted (fine h) n e q =
+  told_accepted (fine h) n e q =
       let same : ◌≡◌ {A = End} (record { fields = h.fields; next = h.next }) (record { fields = n; next = e }) = cc in
       (h, refl, ap (λ (x : End). x.fields) same, ap (λ (x : End). x.next) same, refl)
-  told-accepted (refused k p) n e q = absurd (let z : ◌≡◌ {A = ℕ} 0 1 = cc in omega arith)
+  told_accepted (refused k p) n e q = absurd (let z : ◌≡◌ {A = ℕ} 0 1 = cc in omega arith)
 
 -- a header declares no more fields than the most
 header_most : (s : List ℕ) (h : Header) → header s ≡ fine h → h.fields ≤ most_fields
@@ -65,9 +65,9 @@ module _ (lent : M.Lent) (s : List ℕ) where
   front_long h = simp (lt-leb (length s) limit h)
 
   module _ (short : length s ≤ limit) where
-    pub front-stop : (k p : ℕ) → header s ≡ refused k p → front_of lent s ≡ refused k p
+    pub front_stop : (k p : ℕ) → header s ≡ refused k p → front_of lent s ≡ refused k p
     unfolding front_of
-    front-stop k p e = simp (le-leb (length s) limit short, e)
+    front_stop k p e = simp (le-leb (length s) limit short, e)
 
     module _ (h : Header) (a : header s ≡ fine h) where
       pub front-room : enough lent h.fields ≡ false → front_of lent s ≡ refused 14 0
@@ -79,9 +79,9 @@ module _ (lent : M.Lent) (s : List ℕ) where
       front-fine e = simp (le-leb (length s) limit short, a, e)
 
   -- reading is that, and then the payload
-  reading-front : reading lent s ≡ (front_of lent s >>= message_rest s)
+  reading_front : reading lent s ≡ (front_of lent s >>= message_rest s)
   unfolding reading message front_of
-  reading-front = by_length (leb (length s) limit) refl
+  reading_front = by_length (leb (length s) limit) refl
     where
       Same : Type 0
       Same = reading lent s ≡ (front_of lent s >>= message_rest s)
@@ -98,8 +98,8 @@ module _ (lent : M.Lent) (s : List ℕ) where
       by_length true l = by-header l (header s) refl
       by_length false l = simp l
 
-  pub reading-closed : (k p : ℕ) → front_of lent s ≡ refused k p → reading lent s ≡ refused k p
-  reading-closed k p e = reading-front ∙ simp e
+  pub reading_closed : (k p : ℕ) → front_of lent s ≡ refused k p → reading lent s ≡ refused k p
+  reading_closed k p e = reading_front ∙ simp e
 
   -- where it is not refused
   module _ (h : Header) (a : front_of lent s ≡ fine h) where
@@ -123,7 +123,7 @@ module _ (lent : M.Lent) (s : List ℕ) where
 
       pub open-reading : reading lent s ≡ (part_at next (payload (drop next s) n) >>= (λ fs. fine (reading_of s h fs)))
       unfolding message_rest
-      open-reading = reading-front ∙ simp (a, p, q)
+      open-reading = reading_front ∙ simp (a, p, q)
 
       -- the payload's reader tells the rest
       pub open-refused : (k w : ℕ) → payload_steps s next n ≡ refused k w → reading lent s ≡ refused k w

@@ -3,7 +3,7 @@
 ghost use Rattle.std.specs.Prelude.{◌≡◌};
 ghost use Rattle.sim0mq.specs.Answer.{refused};
 ghost use Rattle.reading_header.specs.Frames.{told};
-ghost use Rattle.sim0mq.specs.Message.{enough as enoughOf};
+ghost use Rattle.sim0mq.specs.Message.{enough as enough_of};
 ghost use Rattle.reading_front.specs.Front.{lent_of, no_frames, front_of};
 
 use reading_header::{Frame, Said, header};
@@ -18,7 +18,7 @@ pub enum Lent {
 
 // Whether there is room for n fields.
 fn enough(lent: Lent, n: usize) -> bool
-    ensures { result ≡ enoughOf (lent_of lent) n }
+    ensures { result ≡ enough_of (lent_of lent) n }
 {
     match lent {
         Lent::NoTable => true,

@@ -25,9 +25,9 @@ module _ (k : ℕ) (row : List ℕ) (i : ℕ) where
   here : i < length row → among k (drop i row) ≡ among k (get_or row i 0 ∷ drop (i + 1) row)
   here h = rw (add-one i, drop-cons row i 0 h)
 
-  pub among-here : i < length row → get_or row i 0 ≡ k → true ≡ among k (drop i row)
+  pub among_here : i < length row → get_or row i 0 ≡ k → true ≡ among k (drop i row)
   unfolding among
-  among-here h e = sym (here h ∙ simp (eq-eqb k (get_or row i 0) (sym e)))
+  among_here h e = sym (here h ∙ simp (eq-eqb k (get_or row i 0) (sym e)))
 
   pub among_later : i < length row → (get_or row i 0 ≡ k → ⊥) → among k (drop i row) ≡ among k (drop (i + 1) row)
   unfolding among
@@ -59,13 +59,13 @@ field_unjudged s at b = go (outline s at) refl
 
 -- a frame after 0
 module _ (s codes : List ℕ) (at : ℕ) where
-  pub frame-short : length s ≤ at → frame s codes at ≡ refused 1 (length s)
+  pub frame_short : length s ≤ at → frame s codes at ≡ refused 1 (length s)
   unfolding frame
-  frame-short h = simp (lt-leb (at + 1) (length s) (omega arith))
+  frame_short h = simp (lt-leb (at + 1) (length s) (omega arith))
 
-  pub frame-wrong : at < length s → among (byte s at) codes ≡ false → frame s codes at ≡ refused 4 at
+  pub frame_wrong : at < length s → among (byte s at) codes ≡ false → frame s codes at ≡ refused 4 at
   unfolding frame
-  frame-wrong h e = simp (le-leb (at + 1) (length s) (omega arith), e)
+  frame_wrong h e = simp (le-leb (at + 1) (length s) (omega arith), e)
 
   pub frame_outline : at < length s → among (byte s at) codes ≡ true → NoBoolean codes → outline s at ≡ frame s codes at
   unfolding frame
@@ -73,9 +73,9 @@ module _ (s codes : List ℕ) (at : ℕ) where
 
 -- frame 6
 module _ (s : List ℕ) (at : ℕ) where
-  pub status-stop : (k p : ℕ) → frame s status_codes at ≡ refused k p → status s at ≡ refused k p
+  pub status_stop : (k p : ℕ) → frame s status_codes at ≡ refused k p → status s at ≡ refused k p
   unfolding status
-  status-stop k p e = simp e
+  status_stop k p e = simp e
 
   module _ (f : Field) (e : frame s status_codes at ≡ fine f) where
     pub status-low : byte s f.first < 1 → status s at ≡ refused 6 f.first
@@ -92,9 +92,9 @@ module _ (s : List ℕ) (at : ℕ) where
 
 -- frame 7
 module _ (s : List ℕ) (at : ℕ) where
-  pub declared-stop : (k p : ℕ) → frame s count_codes at ≡ refused k p → declared_number s at ≡ refused k p
+  pub declared_stop : (k p : ℕ) → frame s count_codes at ≡ refused k p → declared_number s at ≡ refused k p
   unfolding declared_number declared
-  declared-stop k p e = simp e
+  declared_stop k p e = simp e
 
   module _ (f : Field) (e : frame s count_codes at ≡ fine f) where
     pub declared-negative : 128 ≤ byte s f.first → declared_number s at ≡ refused 5 f.first
@@ -112,37 +112,37 @@ module _ (s : List ℕ) (at : ℕ) where
 
 -- frame k
 module _ (s : List ℕ) (k at : ℕ) where
-  pub nth-id : k ≤ 4 → frame s id_codes at ≡ nth_frame s k at
+  pub nth_id : k ≤ 4 → frame s id_codes at ≡ nth_frame s k at
   unfolding nth_frame
-  nth-id h = simp (le-leb k 4 h)
+  nth_id h = simp (le-leb k 4 h)
 
   pub nth_number : (k ≤ 4 → ⊥) → k ≡ 5 → frame s number_codes at ≡ nth_frame s k at
   unfolding nth_frame
   nth_number h e = simp e
 
-  pub nth-status : 4 < k → (k ≡ 5 → ⊥) → status s at ≡ nth_frame s k at
+  pub nth_status : 4 < k → (k ≡ 5 → ⊥) → status s at ≡ nth_frame s k at
   unfolding nth_frame
-  nth-status h e = simp (lt-leb k 4 h, ne_eqb k 5 e)
+  nth_status h e = simp (lt-leb k 4 h, ne_eqb k 5 e)
 
 -- the frames from frame k on
 module _ (s : List ℕ) (k : ℕ) (done : List H.Frame) (at : ℕ) where
-  pub frames-stop : (n m r p : ℕ) → n ≡ m + 1 → nth_frame s k at ≡ refused r p → header_from s n k done at ≡ refused r p
+  pub frames_stop : (n m r p : ℕ) → n ≡ m + 1 → nth_frame s k at ≡ refused r p → header_from s n k done at ≡ refused r p
   unfolding header_from
-  frames-stop n m r p e q = simp (e, add-one m, q)
+  frames_stop n m r p e q = simp (e, add-one m, q)
 
-  pub frames-more : (n m : ℕ) (f : Field) → n ≡ m + 1 → nth_frame s k at ≡ fine f
+  pub frames_more : (n m : ℕ) (f : Field) → n ≡ m + 1 → nth_frame s k at ≡ fine f
       → header_from s n k done at ≡ header_from s m (k + 1) (done ++ (frame_of f ∷ [])) (after f)
   unfolding header_from
-  frames-more n m f e q = simp (e, add-one m, q)
+  frames_more n m f e q = simp (e, add-one m, q)
 
-  pub frames-last-stop : (n r p : ℕ) → n ≡ 0 → declared_number s at ≡ refused r p → header_from s n k done at ≡ refused r p
+  pub frames_last_stop : (n r p : ℕ) → n ≡ 0 → declared_number s at ≡ refused r p → header_from s n k done at ≡ refused r p
   unfolding header_from
-  frames-last-stop n r p e q = simp (e, q)
+  frames_last_stop n r p e q = simp (e, q)
 
-  pub frames-last : (n v : ℕ) (f : Field) → n ≡ 0 → declared_number s at ≡ fine (record { field = f; number = v })
+  pub frames_last : (n v : ℕ) (f : Field) → n ≡ 0 → declared_number s at ≡ fine (record { field = f; number = v })
       → header_from s n k done at ≡ fine (record { frames = done ++ (frame_of f ∷ []); fields = v; next = after f })
   unfolding header_from
-  frames-last n v f e q = simp (e, q)
+  frames_last n v f e q = simp (e, q)
 
 -- two judges that go on alike answer alike
 bind_same : {A B : Type 0} (a : Answer A) (f g : A → Answer B) → ((x : A) → f x ≡ g x) → (a >>= f) ≡ (a >>= g)
@@ -151,13 +151,13 @@ bind_same (refused k p) f g e = refl
 
 -- the header is frame 0, and the frames after it
 module _ (s : List ℕ) where
-  pub header-stop : (k p : ℕ) → magic s ≡ refused k p → header s ≡ refused k p
+  pub header_stop : (k p : ℕ) → magic s ≡ refused k p → header s ≡ refused k p
   unfolding header
-  header-stop k p e = simp e
+  header_stop k p e = simp e
 
-  pub header-rest : (at : ℕ) → magic s ≡ fine at → header_rest s at ≡ header s
+  pub header_rest_lem : (at : ℕ) → magic s ≡ fine at → header_rest s at ≡ header s
   unfolding header header_from nth_frame declared_number
-  header-rest at e =
+  header_rest_lem at e =
       simp e
       (bind_same (frame s id_codes at) _ _
       (λ run.
@@ -182,36 +182,36 @@ module _ (s : List ℕ) where
 
 -- how far each frame goes
 module _ (s : List ℕ) where
-  frame-goes : (codes : List ℕ) (at : ℕ) (f : Field) → frame s codes at ≡ fine f → after f ≤ length s
+  frame_goes : (codes : List ℕ) (at : ℕ) (f : Field) → frame s codes at ≡ fine f → after f ≤ length s
   unfolding frame
-  frame-goes codes at f q =
+  frame_goes codes at f q =
       let a = needed s at 1 _ q in let b = guarded (among (byte s at) codes) _ _ _ a.1 in (field_within s at f b.1).1
 
-  status-goes : (at : ℕ) (f : Field) → status s at ≡ fine f → after f ≤ length s
+  status_goes : (at : ℕ) (f : Field) → status s at ≡ fine f → after f ≤ length s
   unfolding status
-  status-goes at f q =
+  status_goes at f q =
       let a = bind_fine (frame s status_codes at) _ q in
       let b = guarded (status_taken (byte s a.0.first)) _ _ _ a.2 in
-      frame-goes status_codes at f (a.1 ∙ b.1)
+      frame_goes status_codes at f (a.1 ∙ b.1)
 
-  pub nth-goes : (k at : ℕ) (f : Field) → nth_frame s k at ≡ fine f → after f ≤ length s
+  pub nth_goes : (k at : ℕ) (f : Field) → nth_frame s k at ≡ fine f → after f ≤ length s
   unfolding nth_frame
-  nth-goes k at f q = go (leb k 4) (eqb k 5) q
+  nth_goes k at f q = go (leb k 4) (eqb k 5) q
     where
       go : (a b : Bool) → cond a (frame s id_codes at) (cond b (frame s number_codes at) (status s at)) ≡ fine f → after f ≤ length s
-      go true b q = frame-goes id_codes at f q
-      go false true q = frame-goes number_codes at f q
-      go false false q = status-goes at f q
+      go true b q = frame_goes id_codes at f q
+      go false true q = frame_goes number_codes at f q
+      go false false q = status_goes at f q
 
-  pub declared-goes : (at : ℕ) (d : Declares) → declared_number s at ≡ fine d → after d.field ≤ length s
+  pub declared_goes : (at : ℕ) (d : Declares) → declared_number s at ≡ fine d → after d.field ≤ length s
   unfolding declared_number declared
-  declared-goes at d q =
+  declared_goes at d q =
       let a = bind_fine (declared s at) _ q in
       let b = bind_fine (frame s count_codes at) _ a.1 in
       let e = guarded (not_negative (byte s b.0.first)) _ _ _ b.2 in
       let g = guarded (fields_taken (big s b.0.first b.0.size)) _ _ _ e.1 in
       let same : a.0 ≡ d.field = ap (λ (x : Declares). x.field) (fine_eq a.2) in
-      frame-goes count_codes at d.field (b.1 ∙ g.1 ∙ ap fine same)
+      frame_goes count_codes at d.field (b.1 ∙ g.1 ∙ ap fine same)
 
 -- the frames that are stored so far, as the definition has them
 frames_back_lem : (l : List Frame) → map framed (map shown l) ≡ l

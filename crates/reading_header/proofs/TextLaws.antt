@@ -17,7 +17,7 @@ use Rattle.sim0mq.specs.Header.{id_codes, among, frame}
 use Rattle.sim0mq.proofs.Answers.{and_true}
 use Rattle.sim0mq.proofs.Rows.{id_not_boolean}
 use Rattle.sim0mq_numbers.specs.Numbers.{number_at}
-use Rattle.sim0mq_numbers.proofs.NumberCases.{number_there, count-fine}
+use Rattle.sim0mq_numbers.proofs.NumberCases.{number_there, count_fine}
 use Rattle.reading_header.specs.Frames.{is_text}
 use Rattle.reading_header.proofs.FrameCases.{frame_outline}
 
@@ -35,24 +35,24 @@ room_left n at l h = go (leb n (l - at - 5)) refl
 
 -- the tests, in the words of the code
 module _ (s : List ℕ) (at : ℕ) where
-  pub text-short : length s < at + 5 → false ≡ is_text s at
+  pub text_short : length s < at + 5 → false ≡ is_text s at
   unfolding is_text
-  text-short h =
+  text_short h =
       let none : leb (at + 5 + big s (at + 1) 4) (length s) ≡ false = lt-leb (at + 5 + big s (at + 1) 4) (length s) (omega arith) in
       sym (simp none (and_false (ltb (length s) 2147483648 && eqb (byte s at) 9)))
 
-  pub text-long : 2147483648 ≤ length s → false ≡ is_text s at
+  pub text_long : 2147483648 ≤ length s → false ≡ is_text s at
   unfolding is_text
-  text-long h = simp (le-ltb (length s) 2147483648 h)
+  text_long h = simp (le-ltb (length s) 2147483648 h)
 
-  pub text-other : length s < 2147483648 → (byte s at ≡ 9 → ⊥) → false ≡ is_text s at
+  pub text_other : length s < 2147483648 → (byte s at ≡ 9 → ⊥) → false ≡ is_text s at
   unfolding is_text
-  text-other h k = simp (lt-ltb (length s) 2147483648 h, ne_eqb (byte s at) 9 k)
+  text_other h k = simp (lt-ltb (length s) 2147483648 h, ne_eqb (byte s at) 9 k)
 
-  pub text-there : (n : ℕ) → length s < 2147483648 → at + 5 ≤ length s → byte s at ≡ 9 → n ≡ number_at s (at + 1) 4
+  pub text_there : (n : ℕ) → length s < 2147483648 → at + 5 ≤ length s → byte s at ≡ 9 → n ≡ number_at s (at + 1) 4
       → leb n (length s - at - 5) ≡ is_text s at
   unfolding is_text
-  text-there n h l code e =
+  text_there n h l code e =
       let read : big s (at + 1) 4 ≡ n = sym (e ∙ number_there s (at + 1) 4 (omega arith) (omega arith)) in
       simp (lt-ltb (length s) 2147483648 h, eq-eqb (byte s at) 9 code, read) (room_left n at (length s) l)
 
@@ -80,9 +80,9 @@ abbrev text_at : ℕ → ℕ → Field
 text_at at n = record { code = 9; place = at; first = at + 5; size = n; marked = 0; values = n }
 
 module _ (s : List ℕ) (at n : ℕ) where
-  text-outline : byte s at ≡ 9 → at + 5 + n ≤ length s → count s (at + 1) ≡ fine n → outline s at ≡ fine (text_at at n)
+  text_outline : byte s at ≡ 9 → at + 5 + n ≤ length s → count s (at + 1) ≡ fine n → outline s at ≡ fine (text_at at n)
   unfolding outline head head_rest counts mark_count marks code_known counts_of marking_of width_of
-  text-outline code fits counted =
+  text_outline code fits counted =
       let first : at + 1 + 4 ≡ at + 5 = omega arith in
       simp (
         le-leb (at + 1) (length s) (omega arith),
@@ -93,12 +93,12 @@ module _ (s : List ℕ) (at n : ℕ) where
         le-leb (at + 5 + n) (length s) fits,
       )
 
-  pub text-taken : Text s at → n ≡ number_at s (at + 1) 4 → fine (text_at at n) ≡ frame s id_codes at
+  pub text_taken_lem : Text s at → n ≡ number_at s (at + 1) 4 → fine (text_at at n) ≡ frame s id_codes at
   unfolding among
-  text-taken text e =
+  text_taken_lem text e =
       let few = text.few in
       let fits = text.fits in
       let read : n ≡ big s (at + 1) 4 = e ∙ number_there s (at + 1) 4 (omega arith) (omega arith) in
-      let counted : count s (at + 1) ≡ fine n = count-fine s (at + 1) n (omega arith) (first_below s (at + 1) (omega arith)) e in
+      let counted : count s (at + 1) ≡ fine n = count_fine s (at + 1) n (omega arith) (first_below s (at + 1) (omega arith)) e in
       let anId : among (byte s at) id_codes ≡ true = ap (λ (k : ℕ). among k id_codes) text.code in
-      sym (text-outline text.code (omega arith) counted) ∙ frame_outline s id_codes at (omega arith) anId id_not_boolean
+      sym (text_outline text.code (omega arith) counted) ∙ frame_outline s id_codes at (omega arith) anId id_not_boolean

@@ -1,6 +1,6 @@
 // The header: the eight frames, in and out as an array by value.
 ghost use Rattle.std.specs.Prelude.{◌≡◌};
-ghost use Rattle.sim0mq.specs.Header.{id_codes, among as amongOf, frame as frame_of, status as statusOf, header as header_of};
+ghost use Rattle.sim0mq.specs.Header.{id_codes, among as among_of, frame as frame_of, status as status_of, header as header_of};
 ghost use Rattle.reading_fields.specs.Items.{fielded};
 ghost use Rattle.reading_header.specs.Frames.{NoBoolean, is_text, nth_frame, counted, declared_number, header_rest, refused_as, told};
 
@@ -46,7 +46,7 @@ const COUNT_CODES: [u8; 3] = [0, 1, 2];
 
 // Whether k is one of these numbers.
 fn among(k: u8, row: &[u8]) -> bool
-    ensures { result ≡ amongOf k row.now }
+    ensures { result ≡ among_of k row.now }
 {
     let mut i: usize = 0;
     while i < row.len() {
@@ -80,7 +80,7 @@ fn typed(s: &[u8], codes: &[u8], at: usize) -> Fielded
 
 // Frame 6, at `at`: its value is a status.
 fn status(s: &[u8], at: usize) -> Fielded
-    ensures { fielded result ≡ statusOf s.now at }
+    ensures { fielded result ≡ status_of s.now at }
 {
     match typed(s, &STATUS_CODES, at) {
         Fielded::Refused(r) => Fielded::Refused(r),

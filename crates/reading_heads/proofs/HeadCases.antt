@@ -35,28 +35,28 @@ product_fits r c h k = lt_of_le_of_lt (product_le r c 4294967295 (omega arith) (
 
 -- heads
 module _ (s : List ℕ) where
-  pub head-short : (at : ℕ) → length s ≤ at → head s at ≡ refused 1 (length s)
+  pub head_short : (at : ℕ) → length s ≤ at → head s at ≡ refused 1 (length s)
   unfolding head
-  head-short at h = simp (lt-leb (at + 1) (length s) (omega arith))
+  head_short at h = simp (lt-leb (at + 1) (length s) (omega arith))
 
 -- the head of a field of code c
 module _ (s : List ℕ) (at c : ℕ) (there : at < length s) (is : c ≡ byte s at) where
-  head-of : head s at ≡ head_rest s at c
+  head_of_lem : head s at ≡ head_rest s at c
   unfolding head
-  head-of = simp (le-leb (at + 1) (length s) (omega arith), is)
+  head_of_lem = simp (le-leb (at + 1) (length s) (omega arith), is)
 
-  pub head-over : 32 < c → head s at ≡ refused 9 at
+  pub head_over : 32 < c → head s at ≡ refused 9 at
   unfolding head_rest code_known
-  head-over k = head-of ∙ simp (lt-leb c 32 k)
+  head_over k = head_of_lem ∙ simp (lt-leb c 32 k)
 
-  head-counts : c ≤ 32 → head s at ≡ (counts s (counts_of c) (at + 1) >>= (λ r. fine (head_of c r)))
+  head_counts : c ≤ 32 → head s at ≡ (counts s (counts_of c) (at + 1) >>= (λ r. fine (head_of c r)))
   unfolding head_rest code_known
-  head-counts l = head-of ∙ simp (le-leb c 32 l)
+  head_counts l = head_of_lem ∙ simp (le-leb c 32 l)
 
   -- and that has k counts
   module _ (known : c ≤ 32) (k : ℕ) (asks : k ≡ counts_of c) where
     head-asks : head s at ≡ (counts s k (at + 1) >>= (λ r. fine (head_of c r)))
-    head-asks = rw asks (head-counts known)
+    head-asks = rw asks (head_counts known)
 
     pub head-none : k ≡ 0 → asked_for c 1 1 (at + 1) ≡ head s at
     unfolding counts

@@ -21,38 +21,38 @@ module _ (s bs : List ℕ) (i : ℕ) where
   this : i < length bs → literal s (drop i bs) i ≡ literal s (get_or bs i 0 ∷ drop (i + 1) bs) i
   this h = rw (add-one i, drop-cons bs i 0 h)
 
-  pub literal-short : i < length bs → length s ≤ i → literal s (drop i bs) i ≡ refused 1 (length s)
+  pub literal_short : i < length bs → length s ≤ i → literal s (drop i bs) i ≡ refused 1 (length s)
   unfolding literal
-  literal-short h k = this h ∙ simp (lt-leb (i + 1) (length s) (omega arith))
+  literal_short h k = this h ∙ simp (lt-leb (i + 1) (length s) (omega arith))
 
-  pub literal-wrong : i < length bs → i < length s → (byte s i ≡ get_or bs i 0 → ⊥) → literal s (drop i bs) i ≡ refused 2 i
+  pub literal_wrong : i < length bs → i < length s → (byte s i ≡ get_or bs i 0 → ⊥) → literal s (drop i bs) i ≡ refused 2 i
   unfolding literal
-  literal-wrong h k e = this h ∙ simp (le-leb (i + 1) (length s) (omega arith), ne_eqb (byte s i) (get_or bs i 0) e)
+  literal_wrong h k e = this h ∙ simp (le-leb (i + 1) (length s) (omega arith), ne_eqb (byte s i) (get_or bs i 0) e)
 
-  pub literal-next : i < length bs → i < length s → byte s i ≡ get_or bs i 0 → literal s (drop i bs) i ≡ literal s (drop (i + 1) bs) (i + 1)
+  pub literal_next : i < length bs → i < length s → byte s i ≡ get_or bs i 0 → literal s (drop i bs) i ≡ literal s (drop (i + 1) bs) (i + 1)
   unfolding literal
-  literal-next h k e = this h ∙ simp (le-leb (i + 1) (length s) (omega arith), eq-eqb (byte s i) (get_or bs i 0) e)
+  literal_next h k e = this h ∙ simp (le-leb (i + 1) (length s) (omega arith), eq-eqb (byte s i) (get_or bs i 0) e)
 
-  pub literal-done : length bs ≤ i → literal s (drop i bs) i ≡ fine i
+  pub literal_done : length bs ≤ i → literal s (drop i bs) i ≡ fine i
   unfolding literal
-  literal-done h = rw (drop_of_length-le bs h)
+  literal_done h = rw (drop_of_length-le bs h)
 
 module _ (s : List ℕ) (at : ℕ) where
-  pub digit-short : length s ≤ at → digit s at ≡ refused 1 (length s)
+  pub digit_short : length s ≤ at → digit s at ≡ refused 1 (length s)
   unfolding digit
-  digit-short h = simp (lt-leb (at + 1) (length s) (omega arith))
+  digit_short h = simp (lt-leb (at + 1) (length s) (omega arith))
 
   pub digit_low : at < length s → byte s at < 48 → digit s at ≡ refused 2 at
   unfolding digit
   digit_low h k = simp (le-leb (at + 1) (length s) (omega arith), lt-leb 48 (byte s at) k)
 
-  pub digit-high : at < length s → 48 ≤ byte s at → 57 < byte s at → digit s at ≡ refused 2 at
+  pub digit_high : at < length s → 48 ≤ byte s at → 57 < byte s at → digit s at ≡ refused 2 at
   unfolding digit
-  digit-high h k l = simp (le-leb (at + 1) (length s) (omega arith), le-leb 48 (byte s at) k, lt-leb (byte s at) 57 l)
+  digit_high h k l = simp (le-leb (at + 1) (length s) (omega arith), le-leb 48 (byte s at) k, lt-leb (byte s at) 57 l)
 
-  pub digit-fine : (d : ℕ) → at < length s → d ≡ byte s at → 48 ≤ d → d ≤ 57 → digit s at ≡ fine d
+  pub digit_fine : (d : ℕ) → at < length s → d ≡ byte s at → 48 ≤ d → d ≤ 57 → digit s at ≡ fine d
   unfolding digit
-  digit-fine d h e k l = simp (le-leb (at + 1) (length s) (omega arith), ← e, le-leb 48 d k, le-leb d 57 l)
+  digit_fine d h e k l = simp (le-leb (at + 1) (length s) (omega arith), ← e, le-leb 48 d k, le-leb d 57 l)
 
 pub edition_fine : (a b : ℕ) → a ≡ 48 → b ≡ 49 → fine 10 ≡ edition_end a b
 unfolding edition_end
@@ -67,9 +67,9 @@ unfolding edition_end
 edition_second a b e f = simp (e, ne_eqb b 49 f)
 
 module _ (s : List ℕ) where
-  pub magic-stop : (k p : ℕ) → literal s magic_bytes 0 ≡ refused k p → magic s ≡ refused k p
+  pub magic_stop : (k p : ℕ) → literal s magic_bytes 0 ≡ refused k p → magic s ≡ refused k p
   unfolding magic
-  magic-stop k p e = simp e
+  magic_stop k p e = simp e
 
   module _ (n : ℕ) (l : literal s magic_bytes 0 ≡ fine n) where
     pub magic-first : (k p : ℕ) → digit s 8 ≡ refused k p → magic s ≡ refused k p

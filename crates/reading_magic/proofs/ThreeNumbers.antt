@@ -33,9 +33,9 @@ digits = refl
 
 -- the tests of the three numbers, in the words of the code
 module _ (s : List ℕ) where
-  pub frame-0-short : length s < 10 → false ≡ is_frame0 s
+  pub frame_0_short : length s < 10 → false ≡ is_frame0 s
   unfolding is_frame0
-  frame-0-short h = simp (lt-leb 10 (length s) h)
+  frame_0_short h = simp (lt-leb 10 (length s) h)
 
   read : (at n x : ℕ) → at + n ≤ length s → n ≤ 8 → x ≡ number_at s at n → big s at n ≡ x
   read at n x h k e = sym (e ∙ number_there s at n h k)
@@ -96,9 +96,9 @@ module _ (s : List ℕ) (bytes : (i : ℕ) → byte s i < 256) where
       let same : l ≡ big_bytes n x = taken ∙ sym (bytes_back s bytes n at h) ∙ ap (big_bytes n) e in
       subst (λ (m : List ℕ). Stands s at m) same there.1
 
-  pub frame-0-taken : is_frame0 s ≡ true → fine 10 ≡ magic s
+  pub frame_0_taken : is_frame0 s ≡ true → fine 10 ≡ magic s
   unfolding is_frame0 big_bytes
-  frame-0-taken e =
+  frame_0_taken e =
       let toDigits = and_true (leb 10 (length s) && eqb (big s 0 4) (big frame0 0 4) && eqb (big s 4 4) (big frame0 4 4)) _ e in
       let toNext = and_true (leb 10 (length s) && eqb (big s 0 4) (big frame0 0 4)) _ toDigits.0 in
       let toFirst = and_true (leb 10 (length s)) _ toNext.0 in

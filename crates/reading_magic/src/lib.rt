@@ -1,6 +1,6 @@
 // Frame 0 of the header.
 ghost use Rattle.std.specs.Prelude.{◌≡◌};
-ghost use Rattle.sim0mq.specs.Header.{digit as digitOf, magic as magicOf};
+ghost use Rattle.sim0mq.specs.Header.{digit as digit_of, magic as magic_of};
 ghost use Rattle.sim0mq.specs.Views.{judged};
 ghost use Rattle.reading_magic.specs.Magic.{literal_end, edition_end, is_frame0};
 
@@ -53,7 +53,7 @@ fn literal(s: &[u8]) -> Judged
 
 // The digit at `at`.
 fn digit(s: &[u8], at: usize) -> Judged
-    ensures { judged result ≡ digitOf s.now at }
+    ensures { judged result ≡ digit_of s.now at }
 {
     if s.len() <= at {
         return sim0mq::refuse(1, s.len());
@@ -70,7 +70,7 @@ fn digit(s: &[u8], at: usize) -> Judged
 
 // Frame 0, looked at byte by byte: the place after it.
 fn each_byte(s: &[u8]) -> Judged
-    ensures { judged result ≡ magicOf s.now }
+    ensures { judged result ≡ magic_of s.now }
 {
     match literal(s) {
         Judged::Refused(r) => Judged::Refused(r),
@@ -99,7 +99,7 @@ fn edition(a: usize, b: usize) -> Judged
 
 // Frame 0, of the edition 01: the place after it. Where it is as it should be, a look at three numbers is enough.
 pub fn magic(s: &[u8]) -> Judged
-    ensures { judged result ≡ magicOf s.now }
+    ensures { judged result ≡ magic_of s.now }
 {
     if is_frame_0(s) {
         return Judged::Accepted(10);

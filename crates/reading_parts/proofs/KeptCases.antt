@@ -16,9 +16,9 @@ use Rattle.sim0mq.specs.Field.{Field, field, after}
 use Rattle.sim0mq.specs.Payload.{moved}
 use Rattle.sim0mq.specs.Table.{row, row_size}
 use Rattle.sim0mq.specs.Message.{limit}
-use Rattle.reading_heads.proofs.HeadCases.{head-short}
+use Rattle.reading_heads.proofs.HeadCases.{head_short}
 use Rattle.reading_parts.specs.Kept.{first, before_fault, kept_one, kept_all, rows_in, kept_rest}
-use Rattle.reading_parts.proofs.PartCases.{field-head-stop}
+use Rattle.reading_parts.proofs.PartCases.{field_head_stop}
 
 -- the rows that there are
 pub rows_within : (bytes numbers : ℕ) → bytes ≤ limit → numbers / row_size ≡ rows_in bytes numbers
@@ -47,9 +47,9 @@ rows_some bytes numbers h = go (leb bytes limit) refl h
 
 -- one field
 module _ (many k i : ℕ) (f : Field) (kept : List ℕ) where
-  pub kept-before : i < k → kept ≡ kept_one many k i f kept
+  pub kept_before : i < k → kept ≡ kept_one many k i f kept
   unfolding kept_one
-  kept-before h = simp (lt-ltb i k h)
+  kept_before h = simp (lt-ltb i k h)
 
   pub kept_here : k ≤ i → i - k < many → sets kept (row_size * (i - k)) (row f) ≡ kept_one many k i f kept
   unfolding kept_one
@@ -59,18 +59,18 @@ module _ (many k i : ℕ) (f : Field) (kept : List ℕ) where
   unfolding kept_one
   kept_full h l = simp (le-ltb i k h, le-ltb (i - k) many l)
 
-  pub kept-rowless : many ≡ 0 → kept ≡ kept_one many k i f kept
+  pub kept_rowless : many ≡ 0 → kept ≡ kept_one many k i f kept
   unfolding kept_one
-  kept-rowless e = go (ltb i k) (ltb (i - k) many) (ap (ltb (i - k)) e ∙ le-ltb (i - k) 0 (omega arith))
+  kept_rowless e = go (ltb i k) (ltb (i - k) many) (ap (ltb (i - k)) e ∙ le-ltb (i - k) 0 (omega arith))
     where
       go : (a b : Bool) → b ≡ false → kept ≡ cond a kept (cond b (sets kept (row_size * (i - k)) (row f)) kept)
       go true b q = refl
       go false true q = absurd (false≢true (sym q))
       go false false q = refl
 
-  pub kept-long : length (kept_one many k i f kept) ≡ length kept
+  pub kept_long : length (kept_one many k i f kept) ≡ length kept
   unfolding kept_one
-  kept-long = go (ltb i k) (ltb (i - k) many)
+  kept_long = go (ltb i k) (ltb (i - k) many)
     where
       go : (a b : Bool) → length (cond a kept (cond b (sets kept (row_size * (i - k)) (row f)) kept)) ≡ length kept
       go true b = refl
@@ -79,14 +79,14 @@ module _ (many k i : ℕ) (f : Field) (kept : List ℕ) where
 
 -- the fields before the first fault
 module _ (s : List ℕ) (at : ℕ) where
-  pub front-none : (n : ℕ) → n ≡ 0 → before_fault s n at ≡ []
+  pub front_none : (n : ℕ) → n ≡ 0 → before_fault s n at ≡ []
   unfolding before_fault
-  front-none n e = simp e
+  front_none n e = simp e
 
-  pub front-stop : (n r p : ℕ) → field s at ≡ refused r p → before_fault s n at ≡ []
+  pub front_stop : (n r p : ℕ) → field s at ≡ refused r p → before_fault s n at ≡ []
   unfolding before_fault first
-  front-stop zero r p q = refl
-  front-stop (suc n) r p q = simp q
+  front_stop zero r p q = refl
+  front_stop (suc n) r p q = simp q
 
   pub front_more : (n m : ℕ) (f : Field) → n ≡ m + 1 → field s at ≡ fine f → before_fault s n at ≡ f ∷ before_fault s m (after f)
   unfolding before_fault first
@@ -96,7 +96,7 @@ module _ (s : List ℕ) (at : ℕ) where
 pub kept_short : (s : List ℕ) (base from n k : ℕ) (kept : List ℕ) → length s < from → kept ≡ kept_rest s base from n k kept
 unfolding kept_rest kept_all
 kept_short s base from n k kept h =
-    let none : before_fault s n from ≡ [] = front-stop s from n 1 (length s) (field-head-stop s from 1 (length s) (head-short s from (omega arith))) in
+    let none : before_fault s n from ≡ [] = front_stop s from n 1 (length s) (field_head_stop s from 1 (length s) (head_short s from (omega arith))) in
     simp none
 
 -- at first no field was passed
@@ -112,15 +112,15 @@ module _ (s : List ℕ) (base many k : ℕ) (all kept : List ℕ) (left at i : �
   unfolding kept_all
   nothing e = sym (whole ∙ simp e)
 
-  pub kept-end : left ≡ 0 → kept ≡ all
-  kept-end e = nothing (front-none s at left e)
+  pub kept_end : left ≡ 0 → kept ≡ all
+  kept_end e = nothing (front_none s at left e)
 
-  pub kept-stop : (r p : ℕ) → field s at ≡ refused r p → kept ≡ all
-  kept-stop r p q = nothing (front-stop s at left r p q)
+  pub kept_stop : (r p : ℕ) → field s at ≡ refused r p → kept ≡ all
+  kept_stop r p q = nothing (front_stop s at left r p q)
 
   pub kept_more : (m j end : ℕ) (f g : Field) (next : List ℕ) → left ≡ m + 1 → field s at ≡ fine f → after f ≡ end → j ≡ i + 1 → g ≡ f
       → next ≡ kept_one many k i (moved base g) kept
       → (all ≡ kept_all many k j (map (moved base) (before_fault s m end)) next) × (length next ≡ length kept)
   unfolding kept_all
   kept_more m j end f g next e q d c same n =
-      (whole ∙ simp (front_more s at left m f e q) (sym (rw (n, c, same, ← d))), ap length n ∙ kept-long many k i (moved base g) kept)
+      (whole ∙ simp (front_more s at left m f e q) (sym (rw (n, c, same, ← d))), ap length n ∙ kept_long many k i (moved base g) kept)

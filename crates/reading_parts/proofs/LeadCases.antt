@@ -54,9 +54,9 @@ module _ (base : ℕ) (r : Run) where
           unfolding agrees_at
           end-told h = simp (le-leb r.code 8 a, le-leb r.size 8 b, le-leb r.fields limit d, le-leb base limit e, le-leb r.end (limit - base) h)
 
-  pub agrees-keepable : (many : ℕ) → agrees_at base r ≡ true → Keepable many 0 base 0 r
+  pub agrees_keepable : (many : ℕ) → agrees_at base r ≡ true → Keepable many 0 base 0 r
   unfolding agrees_at limit
-  agrees-keepable many q =
+  agrees_keepable many q =
       let a = and_true (leb r.code 8) _ q in
       let b = and_true (leb r.size 8) _ a.1 in
       let d = and_true (leb r.fields limit) _ b.1 in
@@ -77,14 +77,14 @@ module _ (base : ℕ) (r : Run) where
 
 -- what is kept of a run whose numbers agree, and of one whose do not
 module _ (base : ℕ) (r : Run) (kept : List ℕ) where
-  pub lead-agrees : agrees_at base r ≡ true
+  pub lead_agrees : agrees_at base r ≡ true
       → kept_all (length kept / row_size) 0 0 (map (moved base) (alike_fields r.code r.size r.fields 0)) kept ≡ kept_lead base r kept
   unfolding kept_lead
-  lead-agrees q = simp q
+  lead_agrees q = simp q
 
-  pub lead-differs : agrees_at base r ≡ false → kept ≡ kept_lead base r kept
+  pub lead_differs : agrees_at base r ≡ false → kept ≡ kept_lead base r kept
   unfolding kept_lead
-  lead-differs q = simp q
+  lead_differs q = simp q
 
 -- the numbers of a run that stands at the front of a part agree
 pub lead_agreed : (s : List ℕ) (base n : ℕ) (r : Run) → Lead s 0 n r → base + length s ≤ limit → agrees_at base r ≡ true

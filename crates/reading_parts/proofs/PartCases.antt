@@ -21,7 +21,7 @@ use Rattle.sim0mq.proofs.FieldLaws.{count_sound}
 use Rattle.reading_values.specs.Values.{size_of, size_at, booleans_end, values_end}
 use Rattle.reading_parts.specs.Parts.{steps_from, rest_steps}
 use Rattle.reading_parts.specs.Kept.{Small}
-use Rattle.reading_values.proofs.ValueCases.{size-goes, width_positive}
+use Rattle.reading_values.proofs.ValueCases.{size_goes, width_positive}
 
 -- how far each item goes
 mark_long : {l : List ℕ} → IsMark l → 2 ≤ length l
@@ -30,48 +30,48 @@ mark_long (with_currency a b) = omega arith
 mark_long (with_both a b c) = omega arith
 
 module _ (s : List ℕ) where
-  pub mark-goes : (at e : ℕ) → mark s at ≡ fine e → (at + 2 ≤ e) × (e ≤ length s)
-  mark-goes at e q =
+  pub mark_goes : (at e : ℕ) → mark s at ≡ fine e → (at + 2 ≤ e) × (e ≤ length s)
+  mark_goes at e q =
       let x = mark_sound s at e q in
       let f = x.there.fits in
       let g = x.ends in
       (omega (arith, mark_long x.is), omega arith)
 
-  count-goes : (at n : ℕ) → count s at ≡ fine n → at + 4 ≤ length s
-  count-goes at n q = let x = count_sound s at n q in let f = x.there.fits in let l = x.is.long in omega arith
+  count_goes : (at n : ℕ) → count s at ≡ fine n → at + 4 ≤ length s
+  count_goes at n q = let x = count_sound s at n q in let f = x.there.fits in let l = x.is.long in omega arith
 
-  counts-goes : (k at : ℕ) (r : Counted) → at ≤ length s → counts s k at ≡ fine r → (at ≤ r.next) × (r.next ≤ length s)
+  counts_goes : (k at : ℕ) (r : Counted) → at ≤ length s → counts s k at ≡ fine r → (at ≤ r.next) × (r.next ≤ length s)
   unfolding counts
-  counts-goes zero at r h q = let e : at ≡ r.next = ap (λ (x : Counted). x.next) (fine_eq q) in (omega arith, omega arith)
-  counts-goes (suc zero) at r h q =
+  counts_goes zero at r h q = let e : at ≡ r.next = ap (λ (x : Counted). x.next) (fine_eq q) in (omega arith, omega arith)
+  counts_goes (suc zero) at r h q =
       let a = bind_fine (count s at) _ q in
-      let l = count-goes at a.0 a.1 in
+      let l = count_goes at a.0 a.1 in
       let e : at + 4 ≡ r.next = ap (λ (x : Counted). x.next) (fine_eq a.2) in
       (omega arith, omega arith)
-  counts-goes (suc (suc k)) at r h q =
+  counts_goes (suc (suc k)) at r h q =
       let a = bind_fine (count s at) _ q in
       let b = bind_fine (count s (at + 4)) _ a.2 in
-      let l = count-goes (at + 4) b.0 b.1 in
+      let l = count_goes (at + 4) b.0 b.1 in
       let e : at + 8 ≡ r.next = ap (λ (x : Counted). x.next) (fine_eq b.2) in
       (omega arith, omega arith)
 
-  pub head-goes : (at : ℕ) (h : Head) → head s at ≡ fine h → (at + 1 ≤ h.next) × (h.next ≤ length s)
+  pub head_goes : (at : ℕ) (h : Head) → head s at ≡ fine h → (at + 1 ≤ h.next) × (h.next ≤ length s)
   unfolding head head_rest
-  head-goes at h q =
+  head_goes at h q =
       let a = needed s at 1 _ q in
       let b = guarded (code_known (byte s at)) _ _ _ a.1 in
       let d = bind_fine (counts s (counts_of (byte s at)) (at + 1)) _ b.1 in
-      let g = counts-goes (counts_of (byte s at)) (at + 1) d.0 a.0 d.1 in
+      let g = counts_goes (counts_of (byte s at)) (at + 1) d.0 a.0 d.1 in
       let e : d.0.next ≡ h.next = ap (λ (x : Head). x.next) (fine_eq d.2) in
       let l = g.0 in
       let m = g.1 in
       (omega arith, omega arith)
 
-  pub values-goes : (c n first e : ℕ) → values_end s c n first ≡ fine e → (e ≡ first + n * width_of c) × (e ≤ length s)
+  pub values_goes : (c n first e : ℕ) → values_end s c n first ≡ fine e → (e ≡ first + n * width_of c) × (e ≤ length s)
   unfolding values_end
-  values-goes c n first e q =
+  values_goes c n first e q =
       let a = bind_fine (size_at s c n first) _ q in
-      let g = size-goes s c n first a.0 a.1 in
+      let g = size_goes s c n first a.0 a.1 in
       let b = bind_fine (booleans_end s (booleans_of c a.0) first) _ a.2 in
       let z : first + a.0 ≡ e = fine_eq b.2 in
       let l = g.1 in
@@ -84,9 +84,9 @@ found at h first size = record { code = h.code; place = at; first = first; size 
 
 -- a field whose head and marks were taken is judged by its values
 module _ (s : List ℕ) (at : ℕ) (h : Head) (first : ℕ) (a : head s at ≡ fine h) (b : marks s h.marked h.next ≡ fine first) where
-  field-of : field s at ≡ (values_end s h.code h.values first >>= (λ e. fine (field_of at h first)))
+  field_of_lem : field s at ≡ (values_end s h.code h.values first >>= (λ e. fine (field_of at h first)))
   unfolding field outline values_end size_of booleans_end
-  field-of = go (need s first size) (booleans s (booleans_of h.code size) first) refl refl
+  field_of_lem = go (need s first size) (booleans s (booleans_of h.code size) first) refl refl
     where
       size : ℕ
       size = h.values * width_of h.code
@@ -99,9 +99,9 @@ module _ (s : List ℕ) (at : ℕ) (h : Head) (first : ℕ) (a : head s at ≡ f
 
 -- a field is judged by its head, its marks and its values
 module _ (s : List ℕ) (at : ℕ) where
-  pub field-head-stop : (r p : ℕ) → head s at ≡ refused r p → field s at ≡ refused r p
+  pub field_head_stop : (r p : ℕ) → head s at ≡ refused r p → field s at ≡ refused r p
   unfolding field outline
-  field-head-stop r p q = simp q
+  field_head_stop r p q = simp q
 
   module _ (h : Head) (a : head s at ≡ fine h) where
     pub field-mark-stop : (r p : ℕ) → marks s h.marked h.next ≡ refused r p → field s at ≡ refused r p
@@ -110,48 +110,48 @@ module _ (s : List ℕ) (at : ℕ) where
 
     module _ (first : ℕ) (b : marks s h.marked h.next ≡ fine first) where
       pub field-values-stop : (r p : ℕ) → values_end s h.code h.values first ≡ refused r p → field s at ≡ refused r p
-      field-values-stop r p q = field-of s at h first a b ∙ simp q
+      field-values-stop r p q = field_of_lem s at h first a b ∙ simp q
 
       pub field-taken : (e : ℕ) → values_end s h.code h.values first ≡ fine e → field s at ≡ fine (found at h first (e - first))
       field-taken e q =
-          let g = (values-goes s h.code h.values first e q).0 in
+          let g = (values_goes s h.code h.values first e q).0 in
           let size : h.values * width_of h.code ≡ e - first = omega arith in
-          field-of s at h first a b ∙ simp q (ap (λ (z : ℕ). fine (found at h first z)) size)
+          field_of_lem s at h first a b ∙ simp q (ap (λ (z : ℕ). fine (found at h first z)) size)
 
     -- and ends where its values do
     pub taken-end : (first e : ℕ) → values_end s h.code h.values first ≡ fine e → after (found at h first (e - first)) ≡ e
     unfolding after
-    taken-end first e q = let g = (values-goes s h.code h.values first e q).0 in omega arith
+    taken-end first e q = let g = (values_goes s h.code h.values first e q).0 in omega arith
 
 -- the n fields from a place on: past the bytes' end there is none
 module _ (s : List ℕ) (from n : ℕ) where
-  pub rest-short : length s < from → rest_steps s from n ≡ refused 1 (length s)
+  pub rest_short : length s < from → rest_steps s from n ≡ refused 1 (length s)
   unfolding rest_steps
-  rest-short h = simp (lt-leb (from + 0) (length s) (omega arith))
+  rest_short h = simp (lt-leb (from + 0) (length s) (omega arith))
 
-  pub rest-start : from ≤ length s → rest_steps s from n ≡ steps_from s n from 0
+  pub rest_start : from ≤ length s → rest_steps s from n ≡ steps_from s n from 0
   unfolding rest_steps
-  rest-start h = simp (le-leb (from + 0) (length s) (omega arith))
+  rest_start h = simp (le-leb (from + 0) (length s) (omega arith))
 
 -- the fields from a place on, with k steps counted before
 module _ (s : List ℕ) (at k : ℕ) where
-  pub steps-over : (n : ℕ) → n ≡ 0 → at < length s → steps_from s n at k ≡ refused 13 at
+  pub steps_over : (n : ℕ) → n ≡ 0 → at < length s → steps_from s n at k ≡ refused 13 at
   unfolding steps_from payload_from
-  steps-over n e h = simp (e, lt-leb (length s) at h)
+  steps_over n e h = simp (e, lt-leb (length s) at h)
 
-  pub steps-end : (n : ℕ) → n ≡ 0 → length s ≤ at → steps_from s n at k ≡ fine k
+  pub steps_end : (n : ℕ) → n ≡ 0 → length s ≤ at → steps_from s n at k ≡ fine k
   unfolding steps_from payload_from steps
-  steps-end n e h = simp (e, le-leb (length s) at h, add-zero k)
+  steps_end n e h = simp (e, le-leb (length s) at h, add-zero k)
 
-  pub steps-stop : (n r p : ℕ) → (n ≡ 0 → ⊥) → field s at ≡ refused r p → steps_from s n at k ≡ refused r p
+  pub steps_stop : (n r p : ℕ) → (n ≡ 0 → ⊥) → field s at ≡ refused r p → steps_from s n at k ≡ refused r p
   unfolding steps_from payload_from
-  steps-stop zero r p h q = absurd (h refl)
-  steps-stop (suc n) r p h q = simp q
+  steps_stop zero r p h q = absurd (h refl)
+  steps_stop (suc n) r p h q = simp q
 
-  pub steps-more : (n m j end : ℕ) (f : Field) → n ≡ m + 1 → field s at ≡ fine f → after f ≡ end → j ≡ k + (1 + f.marked)
+  pub steps_more : (n m j end : ℕ) (f : Field) → n ≡ m + 1 → field s at ≡ fine f → after f ≡ end → j ≡ k + (1 + f.marked)
       → steps_from s n at k ≡ steps_from s m end j
   unfolding steps_from payload_from steps
-  steps-more n m j end f e q d i = simp (e, add-one m, q, ← d) (same (payload_from s m (after f)))
+  steps_more n m j end f e q d i = simp (e, add-one m, q, ← d) (same (payload_from s m (after f)))
     where
       same : (a : Answer (List Field)) → ((a >>= (λ fs. fine (f ∷ fs))) >>= (λ fs. fine (k + steps fs))) ≡ (a >>= (λ fs. fine (j + steps fs)))
       same (fine fs) = ap fine (omega arith)
@@ -159,18 +159,18 @@ module _ (s : List ℕ) (at k : ℕ) where
 
 -- how far marks and outlines go
 module _ (s : List ℕ) where
-  marks-go : (n at e : ℕ) → marks s n at ≡ fine e → at + n ≤ e
+  marks_go : (n at e : ℕ) → marks s n at ≡ fine e → at + n ≤ e
   unfolding marks
-  marks-go zero at e q = let z : at ≡ e = fine_eq q in omega arith
-  marks-go (suc n) at e q =
+  marks_go zero at e q = let z : at ≡ e = fine_eq q in omega arith
+  marks_go (suc n) at e q =
       let a = bind_fine (mark s at) _ q in
-      let g = (mark-goes s at a.0 a.1).0 in
-      let r = marks-go n a.0 e a.2 in
+      let g = (mark_goes s at a.0 a.1).0 in
+      let r = marks_go n a.0 e a.2 in
       omega arith
 
-  head-code : (at : ℕ) (h : Head) → head s at ≡ fine h → h.code ≤ 32
+  head_code : (at : ℕ) (h : Head) → head s at ≡ fine h → h.code ≤ 32
   unfolding head head_rest code_known
-  head-code at h q =
+  head_code at h q =
       let a = needed s at 1 _ q in
       let b = guarded (code_known (byte s at)) _ _ _ a.1 in
       let d = bind_fine (counts s (counts_of (byte s at)) (at + 1)) _ b.1 in
@@ -195,9 +195,9 @@ field_goes s at f q =
     let m = bind_fine (marks s h.marked h.next) _ o.2 in
     let v = needed_bind s m.0 (h.values * width_of h.code) _ m.2 in
     let j = bind_fine (booleans s (booleans_of d.0.code d.0.size) d.0.first) _ d.2 in
-    let g = (head-goes s at h o.1).0 in
-    let k = marks-go s h.marked h.next m.0 m.1 in
-    let code = head-code s at h o.1 in
+    let g = (head_goes s at h o.1).0 in
+    let k = marks_go s h.marked h.next m.0 m.1 in
+    let code = head_code s at h o.1 in
     subst (Goes s at) (fine_eq v.1 ∙ fine_eq j.2)
     (record {
       code = code;

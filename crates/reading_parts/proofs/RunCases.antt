@@ -14,17 +14,17 @@ use Rattle.reading_runs.proofs.RunLaws.{Standing, far_off, far_on, Lead}
 use Rattle.sim0mq.specs.Message.{limit}
 use Rattle.reading_parts.specs.Parts.{steps_from}
 use Rattle.reading_parts.specs.Kept.{before_fault, kept_one, kept_all, rows_in, Small, Keepable}
-use Rattle.reading_parts.proofs.PartCases.{steps-more}
-use Rattle.reading_parts.proofs.KeptCases.{rows_some, front_more, kept-before, kept-rowless, kept-long}
+use Rattle.reading_parts.proofs.PartCases.{steps_more}
+use Rattle.reading_parts.proofs.KeptCases.{rows_some, front_more, kept_before, kept_rowless, kept_long}
 
 -- what is kept of them: nothing where there is no row, nothing before field k, else the first and those after it
 module _ (many k base c w : ℕ) where
-  pub run-unkept : (m i at : ℕ) (kept : List ℕ) → many ≡ 0 → kept ≡ kept_all many k i (map (moved base) (alike_fields c w m at)) kept
+  pub run_unkept : (m i at : ℕ) (kept : List ℕ) → many ≡ 0 → kept ≡ kept_all many k i (map (moved base) (alike_fields c w m at)) kept
   unfolding kept_all alike_fields
-  run-unkept zero i at kept e = refl
-  run-unkept (suc m) i at kept e =
-      let here = kept-rowless many k i (moved base (plain_at c w at)) kept e in
-      run-unkept m (i + 1) (at + (w + 1)) kept e
+  run_unkept zero i at kept e = refl
+  run_unkept (suc m) i at kept e =
+      let here = kept_rowless many k i (moved base (plain_at c w at)) kept e in
+      run_unkept m (i + 1) (at + (w + 1)) kept e
       ∙ ap (kept_all many k (i + 1) (map (moved base) (alike_fields c w m (at + (w + 1))))) here
 
   pub run_turn : (m l i at : ℕ) (kept : List ℕ) → m ≡ l + 1
@@ -33,9 +33,9 @@ module _ (many k base c w : ℕ) where
   unfolding kept_all alike_fields
   run_turn m l i at kept e = simp (e, add-one l)
 
-  pub run-done : (m i at : ℕ) (kept : List ℕ) → m ≡ 0 → kept_all many k i (map (moved base) (alike_fields c w m at)) kept ≡ kept
+  pub run_done : (m i at : ℕ) (kept : List ℕ) → m ≡ 0 → kept_all many k i (map (moved base) (alike_fields c w m at)) kept ≡ kept
   unfolding kept_all alike_fields
-  run-done m i at kept e = simp e
+  run_done m i at kept e = simp e
 
 pub far_turn : (w m l at : ℕ) → m ≡ l + 1 → far w m at ≡ far w l (at + (w + 1))
 unfolding far
@@ -46,7 +46,7 @@ pub run_one : (many k base c w m i at : ℕ) (kept next : List ℕ) (g : Field) 
     → next ≡ kept_all many k i (map (moved base) (alike_fields c w m at)) kept
 run_one many k base c w m i at kept next g e same n =
     let turn = run_turn many k base c w m 0 i at kept e in
-    let done = run-done many k base c w 0 (i + 1) (at + (w + 1)) (kept_one many k i (moved base (plain_at c w at)) kept) refl in
+    let done = run_done many k base c w 0 (i + 1) (at + (w + 1)) (kept_one many k i (moved base (plain_at c w at)) kept) refl in
     n ∙ ap (λ (f : Field). kept_one many k i (moved base f) kept) same ∙ sym (turn ∙ done)
 
 -- those before field k are passed over
@@ -61,7 +61,7 @@ run_skip many k base c w zero m i at kept h b =
 run_skip many k base c w (suc j) m i at kept h b =
     let up = b (omega arith) in
     let turn = run_turn many k base c w m (m - 1) i at kept (omega arith) in
-    let before = sym (kept-before many k i (moved base (plain_at c w at)) kept (omega arith)) in
+    let before = sym (kept_before many k i (moved base (plain_at c w at)) kept (omega arith)) in
     let rest = run_skip many k base c w j (m - 1) (i + 1) (at + (w + 1)) kept (omega arith) (λ some. omega arith) in
     let left : m - 1 - j ≡ m - suc j = omega arith in
     let place : i + 1 + j ≡ i + suc j = omega arith in (
@@ -95,7 +95,7 @@ run_kept many k base c w m i j p all kept next g e h same n =
     let turn = run_turn many k base c w (m - j) (m - (j + 1)) (i + j) p kept (omega arith) in
     let place : i + j + 1 ≡ i + (j + 1) = omega arith in
     let here : kept_one many k (i + j) (moved base (plain_at c w p)) kept ≡ next = sym (n ∙ ap (λ (f : Field). kept_one many k (i + j) (moved base f) kept) same) in
-    (e ∙ turn ∙ rw (place, here) refl, ap length n ∙ kept-long many k (i + j) (moved base g) kept)
+    (e ∙ turn ∙ rw (place, here) refl, ap length n ∙ kept_long many k (i + j) (moved base g) kept)
 
 -- the next of them begins where this one ends, and all end where the run does
 pub run_next : (w m j p end : ℕ) → j < m → far w (m - j) p ≡ end → (far w (m - (j + 1)) (p + (w + 1)) ≡ end) × (p + (w + 1) ≤ end)
@@ -111,47 +111,47 @@ run_small base c w p end hc hw h l =
 
 -- fields that stand one after the other are judged, and kept, as those that a run has
 module _ (s : List ℕ) (base c w : ℕ) where
-  pub after-plain : (at : ℕ) → after (plain_at c w at) ≡ at + (w + 1)
+  pub after_plain : (at : ℕ) → after (plain_at c w at) ≡ at + (w + 1)
   unfolding after
-  after-plain at = omega arith
+  after_plain at = omega arith
 
-  pub steps-run : (m n left at k j end : ℕ) → Standing s c w m at → far w m at ≡ end → n ≡ m + left → j ≡ k + m
+  pub steps_run : (m n left at k j end : ℕ) → Standing s c w m at → far w m at ≡ end → n ≡ m + left → j ≡ k + m
       → steps_from s n at k ≡ steps_from s left end j
   unfolding Standing far
-  steps-run zero n left at k j end st e q d =
+  steps_run zero n left at k j end st e q d =
       let same : n ≡ left = omega arith in
       let none : k ≡ j = omega arith in
       rw (same, none, e) refl
-  steps-run (suc m) n left at k j end st e q d =
-      steps-more s at k n (m + left) (k + 1) (at + (w + 1)) (plain_at c w at) (omega arith) st.0 (after-plain at) (omega arith)
-      ∙ steps-run m (m + left) left (at + (w + 1)) (k + 1) j end st.1 e refl (omega arith)
+  steps_run (suc m) n left at k j end st e q d =
+      steps_more s at k n (m + left) (k + 1) (at + (w + 1)) (plain_at c w at) (omega arith) st.0 (after_plain at) (omega arith)
+      ∙ steps_run m (m + left) left (at + (w + 1)) (k + 1) j end st.1 e refl (omega arith)
 
-  front-run : (many k m n left at i j end : ℕ) (kept : List ℕ) → Standing s c w m at → far w m at ≡ end → n ≡ m + left → j ≡ i + m
+  front_run : (many k m n left at i j end : ℕ) (kept : List ℕ) → Standing s c w m at → far w m at ≡ end → n ≡ m + left → j ≡ i + m
       → kept_all many k i (map (moved base) (before_fault s n at)) kept
       ≡ kept_all many k j (map (moved base) (before_fault s left end)) (kept_all many k i (map (moved base) (alike_fields c w m at)) kept)
   unfolding Standing far kept_all alike_fields
-  front-run many k zero n left at i j end kept st e q d =
+  front_run many k zero n left at i j end kept st e q d =
       let same : n ≡ left = omega arith in
       let none : i ≡ j = omega arith in
       rw (same, none, e) refl
-  front-run many k (suc m) n left at i j end kept st e q d =
+  front_run many k (suc m) n left at i j end kept st e q d =
       let first : before_fault s n at ≡ plain_at c w at ∷ before_fault s (m + left) (at + (w + 1))
       = front_more s at n (m + left) (plain_at c w at) (omega arith) st.0
-      ∙ ap (λ (p : ℕ). plain_at c w at ∷ before_fault s (m + left) p) (after-plain at) in
+      ∙ ap (λ (p : ℕ). plain_at c w at ∷ before_fault s (m + left) p) (after_plain at) in
       ap (λ (fs : List Field). kept_all many k i (map (moved base) fs) kept) first
-      ∙ front-run many k m (m + left) left (at + (w + 1)) (i + 1) j end (kept_one many k i (moved base (plain_at c w at)) kept) st.1 e refl (omega arith)
+      ∙ front_run many k m (m + left) left (at + (w + 1)) (i + 1) j end (kept_one many k i (moved base (plain_at c w at)) kept) st.1 e refl (omega arith)
 
-  all-long : (many k i : ℕ) (fs : List Field) (kept : List ℕ) → length (kept_all many k i fs kept) ≡ length kept
+  all_long : (many k i : ℕ) (fs : List Field) (kept : List ℕ) → length (kept_all many k i fs kept) ≡ length kept
   unfolding kept_all
-  all-long many k i [] kept = refl
-  all-long many k i (f ∷ fs) kept = all-long many k (i + 1) fs (kept_one many k i f kept) ∙ kept-long many k i f kept
+  all_long many k i [] kept = refl
+  all_long many k i (f ∷ fs) kept = all_long many k (i + 1) fs (kept_one many k i f kept) ∙ kept_long many k i f kept
 
   pub kept_run : (many k m n left at i j end : ℕ) (all kept next : List ℕ) → all ≡ kept_all many k i (map (moved base) (before_fault s n at)) kept
       → Standing s c w m at → far w m at ≡ end → n ≡ m + left → j ≡ i + m
       → next ≡ kept_all many k i (map (moved base) (alike_fields c w m at)) kept
       → (all ≡ kept_all many k j (map (moved base) (before_fault s left end)) next) × (length next ≡ length kept)
   kept_run many k m n left at i j end all kept next whole st e q d here =
-      (whole ∙ front-run many k m n left at i j end kept st e q d ∙ ap (kept_all many k j (map (moved base) (before_fault s left end))) (sym here), ap length here ∙ all-long many k i (map (moved base) (alike_fields c w m at)) kept)
+      (whole ∙ front_run many k m n left at i j end kept st e q d ∙ ap (kept_all many k j (map (moved base) (before_fault s left end))) (sym here), ap length here ∙ all_long many k i (map (moved base) (alike_fields c w m at)) kept)
 
 -- a run of a part can be kept
 pub run_goes : (s : List ℕ) (base many i at left numbers : ℕ) (r : Run) → Lead s at left r → at ≤ length s → length s < 18446744073709551616

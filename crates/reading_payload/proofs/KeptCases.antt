@@ -7,13 +7,13 @@ use native.Mathlib.Omega.{arith}
 use lib.ListN.{length, drop, length-drop, drop_of_length-le}
 use Rattle.sim0mq.specs.Field.{head, outline, field}
 use Rattle.reading_parts.specs.Kept.{before_fault, kept_all, kept_part}
-use Rattle.reading_parts.proofs.KeptCases.{front-stop}
+use Rattle.reading_parts.proofs.KeptCases.{front_stop}
 use Rattle.reading_payload.specs.Kept.{kept_of}
 
 -- of no bytes there is no field, so past the message's end nothing is kept
 front_nothing : (n : ℕ) → before_fault [] n 0 ≡ []
 unfolding field outline head
-front_nothing n = front-stop [] 0 n 1 0 refl
+front_nothing n = front_stop [] 0 n 1 0 refl
 
 pub kept_none : (s : List ℕ) (next n k : ℕ) (kept : List ℕ) → length s < next → kept ≡ kept_of s next n k kept
 unfolding kept_of kept_all

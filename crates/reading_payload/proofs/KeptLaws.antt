@@ -18,7 +18,7 @@ use Rattle.sim0mq.proofs.Answers.{bind_fine, guarded, fine_eq}
 use borrow.Author.Tests.{leb-true}
 use Rattle.reading_parts.specs.Kept.{before_fault, kept_one, kept_all, rows_in}
 use Rattle.reading_payload.specs.Kept.{kept_of}
-use Rattle.reading_parts.proofs.KeptCases.{rows_within, front_more, kept_here, kept-long}
+use Rattle.reading_parts.proofs.KeptCases.{rows_within, front_more, kept_here, kept_long}
 
 -- the table with these numbers from place i on
 unfoldable stored_from : List ℕ → ℕ → List ℕ → List ℕ
@@ -53,46 +53,46 @@ stored_turn table next some rest i h e =
 
 -- as many fields as declared, and they are those before the first fault
 module _ (s : List ℕ) where
-  pub many-from : (n at : ℕ) (fs : List Field) → payload_from s n at ≡ fine fs → length fs ≡ n
+  pub many_from : (n at : ℕ) (fs : List Field) → payload_from s n at ≡ fine fs → length fs ≡ n
   unfolding payload_from
-  many-from zero at fs q = let g = bind_fine (guard (leb (length s) at) 13 at) _ (as-bind (leb (length s) at) q) in ap length (sym (fine_eq g.2))
+  many_from zero at fs q = let g = bind_fine (guard (leb (length s) at) 13 at) _ (as-bind (leb (length s) at) q) in ap length (sym (fine_eq g.2))
     where
       as-bind : (t : Bool) → (guard t 13 at >> fine []) ≡ fine fs → (guard t 13 at >>= (λ pass. fine [])) ≡ fine fs
       as-bind true e = e
       as-bind false e = e
-  many-from (suc n) at fs q =
+  many_from (suc n) at fs q =
       let a = bind_fine (field s at) _ q in
       let b = bind_fine (payload_from s n (after a.0)) _ a.2 in
-      ap length (sym (fine_eq b.2)) ∙ ap suc (many-from n (after a.0) b.0 b.1)
+      ap length (sym (fine_eq b.2)) ∙ ap suc (many_from n (after a.0) b.0 b.1)
 
-  front-from : (n at : ℕ) (fs : List Field) → payload_from s n at ≡ fine fs → before_fault s n at ≡ fs
+  front_from : (n at : ℕ) (fs : List Field) → payload_from s n at ≡ fine fs → before_fault s n at ≡ fs
   unfolding payload_from before_fault
-  front-from zero at fs q = none fs (many-from zero at fs q)
+  front_from zero at fs q = none fs (many_from zero at fs q)
     where
       none : (fs : List Field) → length fs ≡ 0 → [] ≡ fs
       none [] e = refl
       none (f ∷ fs) e = absurd (omega arith)
-  front-from (suc n) at fs q =
+  front_from (suc n) at fs q =
       let a = bind_fine (field s at) _ q in
       let b = bind_fine (payload_from s n (after a.0)) _ a.2 in
       front_more s at (suc n) n a.0 (omega arith) a.1
-      ∙ ap (λ (l : List Field). a.0 ∷ l) (front-from n (after a.0) b.0 b.1)
+      ∙ ap (λ (l : List Field). a.0 ∷ l) (front_from n (after a.0) b.0 b.1)
       ∙ fine_eq b.2
 
-  pub payload-many : (n : ℕ) (fs : List Field) → payload s n ≡ fine fs → length fs ≡ n
+  pub payload_many : (n : ℕ) (fs : List Field) → payload s n ≡ fine fs → length fs ≡ n
   unfolding payload
-  payload-many n fs q = many-from n 0 fs q
+  payload_many n fs q = many_from n 0 fs q
 
-  pub front-accepted : (n : ℕ) (fs : List Field) → payload s n ≡ fine fs → before_fault s n 0 ≡ fs
+  pub front_accepted : (n : ℕ) (fs : List Field) → payload s n ≡ fine fs → before_fault s n 0 ≡ fs
   unfolding payload
-  front-accepted n fs q = front-from n 0 fs q
+  front_accepted n fs q = front_from n 0 fs q
 
 -- an accepted payload has a first field, and after it an accepted rest; or no field, and no byte left
 module _ (s : List ℕ) where
   pub taken_more : (n at : ℕ) (f : Field) (fs : List Field) → payload_from s n at ≡ fine (f ∷ fs)
       → (m : ℕ) × (field s at ≡ fine f) × (payload_from s m (after f) ≡ fine fs)
   unfolding payload_from
-  taken_more zero at f fs q = absurd (none (many-from s zero at (f ∷ fs) q))
+  taken_more zero at f fs q = absurd (none (many_from s zero at (f ∷ fs) q))
     where
       none : suc (length fs) ≡ 0 → ⊥
       none e = omega arith
@@ -107,7 +107,7 @@ module _ (s : List ℕ) where
   pub taken_none : (n at : ℕ) → payload_from s n at ≡ fine [] → length s ≤ at
   unfolding payload_from
   taken_none zero at q = leb-true (length s) at (guarded (leb (length s) at) 13 at _ q).0
-  taken_none (suc n) at q = absurd (none (many-from s (suc n) at [] q))
+  taken_none (suc n) at q = absurd (none (many_from s (suc n) at [] q))
     where
       none : 0 ≡ suc n → ⊥
       none e = omega arith
@@ -121,7 +121,7 @@ kept_all_lem many i (f ∷ fs) kept h room =
     let next = kept_one many 0 i f kept in
     let at : row_size * (i - 0) ≡ row_size * i = omega arith in
     let here : next ≡ sets kept (row_size * i) (row f) = sym (kept_here many 0 i f kept zero-le (omega arith)) ∙ ap (λ (p : ℕ). sets kept p (row f)) at in
-    let long : length next ≡ length kept = kept-long many 0 i f kept in
+    let long : length next ≡ length kept = kept_long many 0 i f kept in
     let turn : stored_from kept (row_size * i) (row f ++ rows fs) ≡ stored_from next (row_size * i + row_size) (rows fs)
     = stored_turn kept next (row f) (rows fs) (row_size * i) (omega arith) here in
     let place : row_size * (i + 1) ≡ row_size * i + row_size = omega arith in
@@ -140,9 +140,9 @@ unfolding row_size
 kept_from s next n at bytes fs kept q short room =
     let many : n ≤ length kept / row_size = (le-div_iff_mul-le (lit< tt)).1 (omega arith) in
     let rowed = rows_within bytes (length kept) short in
-    let count : length (map (moved next) fs) ≡ n = length-map fs (moved next) ∙ many-from s n at fs q in
+    let count : length (map (moved next) fs) ≡ n = length-map fs (moved next) ∙ many_from s n at fs q in
     let within : row_size * rows_in bytes (length kept) ≤ length kept = omega arith in
-    ap (λ (l : List Field). kept_all (rows_in bytes (length kept)) 0 0 (map (moved next) l) kept) (front-from s n at fs q)
+    ap (λ (l : List Field). kept_all (rows_in bytes (length kept)) 0 0 (map (moved next) l) kept) (front_from s n at fs q)
     ∙ kept_whole (rows_in bytes (length kept)) (map (moved next) fs) kept (omega arith) within
 
 -- and those of an accepted payload

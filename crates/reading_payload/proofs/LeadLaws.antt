@@ -16,25 +16,25 @@ use Rattle.reading_runs.specs.declared.Run.{Run}
 use Rattle.reading_runs.proofs.RunLaws.{Standing, Lead, lead}
 use Rattle.reading_parts.specs.Parts.{steps_from, rest_steps, part_steps}
 use Rattle.reading_parts.specs.Kept.{kept_rest}
-use Rattle.reading_parts.proofs.PartCases.{rest-start}
-use Rattle.reading_parts.proofs.RunCases.{after-plain, steps-run}
+use Rattle.reading_parts.proofs.PartCases.{rest_start}
+use Rattle.reading_parts.proofs.RunCases.{after_plain, steps_run}
 use Rattle.reading_payload.specs.Parts.{payload_steps}
-use Rattle.reading_payload.proofs.PayloadCases.{refused-within, at-refused, at-accepted}
+use Rattle.reading_payload.proofs.PayloadCases.{refused_within, at_refused, at_accepted}
 use Rattle.reading_payload.proofs.KeptLaws.{kept_from}
 
 -- steps counted before are added to those from a place on
 module _ (s : List ℕ) (n at k : ℕ) where
-  counted-refused : (r p : ℕ) → steps_from s n at 0 ≡ refused r p → steps_from s n at k ≡ refused r p
+  counted_refused : (r p : ℕ) → steps_from s n at 0 ≡ refused r p → steps_from s n at k ≡ refused r p
   unfolding steps_from
-  counted-refused r p e = go (payload_from s n at) refl e
+  counted_refused r p e = go (payload_from s n at) refl e
     where
       go : (a : Answer (List Field)) → payload_from s n at ≡ a → (a >>= (λ fs. fine (0 + steps fs))) ≡ refused r p → (a >>= (λ fs. fine (k + steps fs))) ≡ refused r p
       go (fine fs) q e = absurd (not_fine (sym e))
       go (refused r w) q e = e
 
-  counted-fine : (j : ℕ) → steps_from s n at 0 ≡ fine j → steps_from s n at k ≡ fine (k + j)
+  counted_fine : (j : ℕ) → steps_from s n at 0 ≡ fine j → steps_from s n at k ≡ fine (k + j)
   unfolding steps_from
-  counted-fine j e = let a = bind_fine (payload_from s n at) _ e in let same = fine_eq a.2 in simp a.1 (ap fine (omega arith))
+  counted_fine j e = let a = bind_fine (payload_from s n at) _ e in let same = fine_eq a.2 in simp a.1 (ap fine (omega arith))
 
 -- fields that stand one after the other come first, and then those after them
 payload_run : (s : List ℕ) (c w m n left at end : ℕ) → Standing s c w m at → far w m at ≡ end → n ≡ m + left
@@ -51,7 +51,7 @@ payload_run s c w (suc m) n left at end st e q =
     let more : n ≡ suc (m + left) = omega arith in
     let rest = payload_run s c w m (m + left) left (at + (w + 1)) end st.1 e refl in
     rw more
-    (simp (st.0, after-plain s 0 c w at, rest) (same (payload_from s left end)))
+    (simp (st.0, after_plain s 0 c w at, rest) (same (payload_from s left end)))
   where
     same : (a : Answer (List Field))
         → ((a >>= (λ fs. fine (alike_fields c w m (at + (w + 1)) ++ fs))) >>= (λ fs. fine (plain_at c w at ∷ fs)))
@@ -64,40 +64,40 @@ module _ (s : List ℕ) (next n left : ℕ) (within : next ≤ length s) (r : Ru
   pub run : Lead (drop next s) 0 n r
   run = lead (drop next s) 0 n r e
 
-  from-here : part_steps (drop next s) n ≡ steps_from (drop next s) left r.end r.fields
+  from_here : part_steps (drop next s) n ≡ steps_from (drop next s) left r.end r.fields
   unfolding part_steps
-  from-here = steps-run (drop next s) 0 r.code r.size r.fields n left 0 0 r.fields r.end run.stand run.ends q (sym (zero-add r.fields))
+  from_here = steps_run (drop next s) 0 r.code r.size r.fields n left 0 0 r.fields r.end run.stand run.ends q (sym (zero-add r.fields))
 
-  pub lead-within : r.end ≤ length (drop next s)
-  lead-within = run.within (omega arith)
+  pub lead_within : r.end ≤ length (drop next s)
+  lead_within = run.within (omega arith)
 
-  rest-here : rest_steps (drop next s) r.end left ≡ steps_from (drop next s) left r.end 0
-  rest-here = rest-start (drop next s) r.end left lead-within
+  rest_here : rest_steps (drop next s) r.end left ≡ steps_from (drop next s) left r.end 0
+  rest_here = rest_start (drop next s) r.end left lead_within
 
-  pub lead-stopped : (k p : ℕ) → rest_steps (drop next s) r.end left ≡ refused k p → part_steps (drop next s) n ≡ refused k p
-  lead-stopped k p a = from-here ∙ counted-refused (drop next s) left r.end r.fields k p (sym rest-here ∙ a)
+  pub lead_stopped : (k p : ℕ) → rest_steps (drop next s) r.end left ≡ refused k p → part_steps (drop next s) n ≡ refused k p
+  lead_stopped k p a = from_here ∙ counted_refused (drop next s) left r.end r.fields k p (sym rest_here ∙ a)
 
-  pub lead-refused : (k p : ℕ) → rest_steps (drop next s) r.end left ≡ refused k p → refused k (next + p) ≡ payload_steps s next n
-  lead-refused k p a = at-refused s next n within k p (lead-stopped k p a)
+  pub lead_refused : (k p : ℕ) → rest_steps (drop next s) r.end left ≡ refused k p → refused k (next + p) ≡ payload_steps s next n
+  lead_refused k p a = at_refused s next n within k p (lead_stopped k p a)
 
-  pub lead-inside : (k p : ℕ) → rest_steps (drop next s) r.end left ≡ refused k p → next + p ≤ length s
-  lead-inside k p a = let inside = refused-within (drop next s) n k p (lead-stopped k p a) in omega (arith, length-drop next s)
+  pub lead_inside : (k p : ℕ) → rest_steps (drop next s) r.end left ≡ refused k p → next + p ≤ length s
+  lead_inside k p a = let inside = refused_within (drop next s) n k p (lead_stopped k p a) in omega (arith, length-drop next s)
 
-  pub lead-accepted : (k : ℕ) → rest_steps (drop next s) r.end left ≡ fine k → fine (r.fields + k) ≡ payload_steps s next n
-  lead-accepted k a = at-accepted s next n within (r.fields + k) (from-here ∙ counted-fine (drop next s) left r.end r.fields k (sym rest-here ∙ a))
+  pub lead_accepted : (k : ℕ) → rest_steps (drop next s) r.end left ≡ fine k → fine (r.fields + k) ≡ payload_steps s next n
+  lead_accepted k a = at_accepted s next n within (r.fields + k) (from_here ∙ counted_fine (drop next s) left r.end r.fields k (sym rest_here ∙ a))
 
   -- its fields, and the rows that are kept of those after the run
-  pub lead-fields : (k : ℕ) → rest_steps (drop next s) r.end left ≡ fine k
+  pub lead_fields : (k : ℕ) → rest_steps (drop next s) r.end left ≡ fine k
       → (fs : List Field) × (payload_from (drop next s) left r.end ≡ fine fs)
       × (payload (drop next s) n ≡ fine (alike_fields r.code r.size r.fields 0 ++ fs))
   unfolding steps_from payload
-  lead-fields k a =
-      let b = bind_fine (payload_from (drop next s) left r.end) _ (sym rest-here ∙ a) in
+  lead_fields k a =
+      let b = bind_fine (payload_from (drop next s) left r.end) _ (sym rest_here ∙ a) in
       (b.0, b.1, payload_run (drop next s) r.code r.size r.fields n left 0 r.end run.stand run.ends q ∙ simp b.1)
 
-  pub lead-kept : (fs : List Field) (kept : List ℕ) → payload_from (drop next s) left r.end ≡ fine fs → length s ≤ limit → row_size * left ≤ length kept
+  pub lead_kept : (fs : List Field) (kept : List ℕ) → payload_from (drop next s) left r.end ≡ fine fs → length s ≤ limit → row_size * left ≤ length kept
       → kept_rest (drop next s) next r.end left 0 kept ≡ stored kept (rows (map (moved next) fs))
   unfolding kept_rest
-  lead-kept fs kept b short room =
+  lead_kept fs kept b short room =
       let long : next + length (drop next s) ≡ length s = omega (arith, length-drop next s) in
       rw long (kept_from (drop next s) next left r.end (length s) fs kept b short room)

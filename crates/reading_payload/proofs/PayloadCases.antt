@@ -12,7 +12,7 @@ use Rattle.sim0mq.specs.Answer.{Answer, fine, refused, ◌>>=◌, part_at}
 use Rattle.sim0mq.specs.Field.{Field}
 use Rattle.sim0mq.specs.Payload.{payload_from, payload, steps}
 use Rattle.sim0mq.proofs.Answers.{bind_fine, fine_eq, not_fine}
-use Rattle.sim0mq.proofs.Refusals.{Held, payload-placed}
+use Rattle.sim0mq.proofs.Refusals.{Held, payload_placed}
 use Rattle.sim0mq.specs.Demand1.{judging_numbers}
 use Rattle.reading_parts.specs.Parts.{steps_from, part_steps}
 use Rattle.reading_payload.specs.Parts.{payload_steps}
@@ -27,37 +27,37 @@ same_refusal e = cc
 
 -- a part's steps, and its fields
 module _ (s : List ℕ) (n : ℕ) where
-  pub steps-refused : (k p : ℕ) → part_steps s n ≡ refused k p → payload s n ≡ refused k p
+  pub steps_refused : (k p : ℕ) → part_steps s n ≡ refused k p → payload s n ≡ refused k p
   unfolding part_steps steps_from payload
-  steps-refused k p e = go (payload_from s n 0) refl e
+  steps_refused k p e = go (payload_from s n 0) refl e
     where
       go : (a : Answer (List Field)) → payload_from s n 0 ≡ a → (a >>= (λ fs. fine (0 + steps fs))) ≡ refused k p → payload_from s n 0 ≡ refused k p
       go (fine fs) q e = absurd (not_fine (sym e))
       go (refused r w) q e = q ∙ same_refusal e
 
-  pub steps-accepted : (k : ℕ) → part_steps s n ≡ fine k → (fs : List Field) × (payload s n ≡ fine fs) × (steps fs ≡ k)
+  pub steps_accepted : (k : ℕ) → part_steps s n ≡ fine k → (fs : List Field) × (payload s n ≡ fine fs) × (steps fs ≡ k)
   unfolding part_steps steps_from payload
-  steps-accepted k e =
+  steps_accepted k e =
       let a = bind_fine (payload_from s n 0) _ e in (a.0, a.1, sym (zero-add (steps a.0)) ∙ fine_eq a.2)
 
-  pub refused-within : (k p : ℕ) → part_steps s n ≡ refused k p → p ≤ length s
+  pub refused_within : (k p : ℕ) → part_steps s n ≡ refused k p → p ≤ length s
   unfolding payload
-  refused-within k p e = (subst (λ (a : Answer (List Field)). Held judging_numbers (length s) a) (steps-refused k p e) (payload-placed s n 0 zero-le)).1
+  refused_within k p e = (subst (λ (a : Answer (List Field)). Held judging_numbers (length s) a) (steps_refused k p e) (payload_placed s n 0 zero-le)).1
 
 -- the payload that begins at a place of a message
 module _ (s : List ℕ) (next n : ℕ) where
-  pub at-short : length s < next → refused 1 (length s) ≡ payload_steps s next n
+  pub at_short : length s < next → refused 1 (length s) ≡ payload_steps s next n
   unfolding payload_steps
-  at-short h = simp (lt-leb (next + 0) (length s) (omega arith))
+  at_short h = simp (lt-leb (next + 0) (length s) (omega arith))
 
-  pub at-refused : next ≤ length s → (k p : ℕ) → part_steps (drop next s) n ≡ refused k p → refused k (next + p) ≡ payload_steps s next n
+  pub at_refused : next ≤ length s → (k p : ℕ) → part_steps (drop next s) n ≡ refused k p → refused k (next + p) ≡ payload_steps s next n
   unfolding payload_steps
-  at-refused h k p e = simp (le-leb (next + 0) (length s) (omega arith), steps-refused (drop next s) n k p e)
+  at_refused h k p e = simp (le-leb (next + 0) (length s) (omega arith), steps_refused (drop next s) n k p e)
 
-  pub at-accepted : next ≤ length s → (k : ℕ) → part_steps (drop next s) n ≡ fine k → fine k ≡ payload_steps s next n
+  pub at_accepted : next ≤ length s → (k : ℕ) → part_steps (drop next s) n ≡ fine k → fine k ≡ payload_steps s next n
   unfolding payload_steps
-  at-accepted h k e =
-      let a = steps-accepted (drop next s) n k e in
+  at_accepted h k e =
+      let a = steps_accepted (drop next s) n k e in
       simp (le-leb (next + 0) (length s) (omega arith), a.1, a.2)
 
   -- and what its steps say of its fields
@@ -83,12 +83,12 @@ module _ (s : List ℕ) (next n : ℕ) where
 
 -- a payload that begins at 0 is all there is
 module _ (s : List ℕ) (n : ℕ) where
-  pub alone-refused : (k p : ℕ) → payload_steps s 0 n ≡ refused k p → payload s n ≡ refused k p
-  alone-refused k p e = sym (unmoved (payload s n)) ∙ at-stopped s 0 n zero-le k p e
+  pub alone_refused : (k p : ℕ) → payload_steps s 0 n ≡ refused k p → payload s n ≡ refused k p
+  alone_refused k p e = sym (unmoved (payload s n)) ∙ at-stopped s 0 n zero-le k p e
     where
       unmoved : (a : Answer (List Field)) → part_at 0 a ≡ a
       unmoved (fine fs) = refl
       unmoved (refused k p) = ap (refused k) (zero-add p)
 
-  pub alone-accepted : (k : ℕ) → payload_steps s 0 n ≡ fine k → (fs : List Field) × (payload s n ≡ fine fs) × (steps fs ≡ k)
-  alone-accepted k e = at-taken s 0 n zero-le k e
+  pub alone_accepted : (k : ℕ) → payload_steps s 0 n ≡ fine k → (fs : List Field) × (payload s n ≡ fine fs) × (steps fs ≡ k)
+  alone_accepted k e = at-taken s 0 n zero-le k e

@@ -25,17 +25,17 @@ size_past c h = simp (lt-leb c 8 (omega arith))
 
 -- whether a field stands at a place
 module _ (s : List ℕ) (c w at : ℕ) where
-  pub stands-short : length s ≤ at + w → stands_at s c w at ≡ false
+  pub stands_short : length s ≤ at + w → stands_at s c w at ≡ false
   unfolding stands_at
-  stands-short h = simp (le-leb (length s) (at + w) h)
+  stands_short h = simp (le-leb (length s) (at + w) h)
 
-  pub stands-there : at + w < length s → stands_at s c w at ≡ eqb (byte s at) c
+  pub stands_there : at + w < length s → stands_at s c w at ≡ eqb (byte s at) c
   unfolding stands_at
-  stands-there h = simp (lt-leb (length s) (at + w) h)
+  stands_there h = simp (lt-leb (length s) (at + w) h)
 
-  pub stands-is : stands_at s c w at ≡ true → (at + w < length s) × (byte s at ≡ c)
+  pub stands_is : stands_at s c w at ≡ true → (at + w < length s) × (byte s at ≡ c)
   unfolding stands_at
-  stands-is e = go (leb (length s) (at + w)) refl e
+  stands_is e = go (leb (length s) (at + w)) refl e
     where
       go : (b : Bool) → leb (length s) (at + w) ≡ b → cond b false (eqb (byte s at) c) ≡ true → (at + w < length s) × (byte s at ≡ c)
       go true q e = absurd (false≢true e)
@@ -47,23 +47,23 @@ run_none at = λ i. record { code = 0; size = 0; fields = 0; end = sym (add-zero
 
 -- how many are alike
 module _ (s : List ℕ) (c w at : ℕ) where
-  pub alike-none : (n : ℕ) → n ≡ 0 → alike s c w n at ≡ 0
+  pub alike_none : (n : ℕ) → n ≡ 0 → alike s c w n at ≡ 0
   unfolding alike
-  alike-none n e = simp e
+  alike_none n e = simp e
 
-  pub alike-stop : (n : ℕ) → stands_at s c w at ≡ false → alike s c w n at ≡ 0
+  pub alike_stop : (n : ℕ) → stands_at s c w at ≡ false → alike s c w n at ≡ 0
   unfolding alike
-  alike-stop zero e = refl
-  alike-stop (suc n) e = simp e
+  alike_stop zero e = refl
+  alike_stop (suc n) e = simp e
 
-  pub alike-start : (n : ℕ) → alike s c w n at ≡ 0 + alike s c w (n - 0) at
-  alike-start n =
+  pub alike_start : (n : ℕ) → alike s c w n at ≡ 0 + alike s c w (n - 0) at
+  alike_start n =
       let same : n ≡ n - 0 = omega arith in
       ap (λ (k : ℕ). alike s c w k at) same ∙ sym (zero-add (alike s c w (n - 0) at))
 
-  pub alike-more : (n m : ℕ) → n ≡ m + 1 → stands_at s c w at ≡ true → alike s c w n at ≡ 1 + alike s c w m (at + (w + 1))
+  pub alike_more : (n m : ℕ) → n ≡ m + 1 → stands_at s c w at ≡ true → alike s c w n at ≡ 1 + alike s c w m (at + (w + 1))
   unfolding alike
-  alike-more n m e q = simp (e, add-one m, q) (omega arith)
+  alike_more n m e q = simp (e, add-one m, q) (omega arith)
 
 -- the place after one field more
 pub grown : (at m w end : ℕ) → end ≡ at + m * (w + 1) → end + (w + 1) ≡ at + (m + 1) * (w + 1)
@@ -77,12 +77,12 @@ module _ (c w at : ℕ) where
   pub far_none : at ≡ at + 0 * (w + 1)
   far_none = sym (add-zero at) ∙ ap (λ (j : ℕ). at + j) (sym (zero-mul (w + 1)))
 
-  pub far-one : at + (w + 1) ≡ at + 1 * (w + 1)
-  far-one = ap (λ (j : ℕ). at + j) (sym (one-mul (w + 1)))
+  pub far_one : at + (w + 1) ≡ at + 1 * (w + 1)
+  far_one = ap (λ (j : ℕ). at + j) (sym (one-mul (w + 1)))
 
-  pub told-run : (m k l end : ℕ) → k ≡ m + l → l ≡ 0 → end ≡ at + m * (w + 1)
+  pub told_run : (m k l end : ℕ) → k ≡ m + l → l ≡ 0 → end ≡ at + m * (w + 1)
       → ◌≡◌ {A = Run} (record { code = c; size = w; fields = m; end = end }) (run_of c w k at)
-  told-run m k l end e z q =
+  told_run m k l end e z q =
       let same : m ≡ k = omega arith in
       λ i. record { code = c; size = w; fields = same i; end = (q ∙ ap (λ (j : ℕ). at + j * (w + 1)) same) i }
 
@@ -106,9 +106,9 @@ size_none c w q n1 n2 n4 n8 =
 
 -- the run at a place: none asked for, none there, of no size, or of fields of the size of their code
 module _ (s : List ℕ) (at n : ℕ) where
-  pub run-unasked : n ≡ 0 → run_at s at n ≡ run_of 0 0 0 at
+  pub run_unasked : n ≡ 0 → run_at s at n ≡ run_of 0 0 0 at
   unfolding run_at
-  run-unasked e = simp e
+  run_unasked e = simp e
 
   module _ (asked : n ≡ 0 → ⊥) where
     pub run_past : length s ≤ at → run_at s at n ≡ run_of 0 0 0 at

@@ -15,7 +15,7 @@ use Rattle.sim0mq.specs.Field.{counts, mark_count, head_rest, head, booleans, bo
 use Rattle.sim0mq.proofs.Rows.{all_below, below_at, eight_wide}
 use Rattle.reading_runs.specs.Runs.{plain_size, plain_at, far, stands_at, alike, run_of, sized, run_at}
 use Rattle.reading_runs.specs.declared.Run.{Run}
-use Rattle.reading_runs.proofs.RunCases.{stands-is}
+use Rattle.reading_runs.proofs.RunCases.{stands_is}
 
 -- what a code that has a size asks for: no count, no mark, one value of that size, which is no Boolean
 pub record Plain (c w : ℕ) : Type 0 where
@@ -46,7 +46,7 @@ plain c w q p = go (leb c 8) (boolean c) refl refl q
 pub plain_field : (s : List ℕ) (c w at : ℕ) → Plain c w → stands_at s c w at ≡ true → field s at ≡ fine (plain_at c w at)
 unfolding field outline head head_rest code_known counts mark_count marks booleans_of booleans
 plain_field s c w at p e =
-    let there = stands-is s c w at e in
+    let there = stands_is s c w at e in
     let within = there.0 in
     let last = p.known in
     let size : 1 * w ≡ w = one-mul w in
@@ -100,7 +100,7 @@ module _ (s : List ℕ) (c w : ℕ) (p : Plain c w) where
       go false e rest = (tt, omega arith, λ h. h)
       go true e rest =
           let fewer = rest.1 in
-          let there = (stands-is s c w at e).0 in
+          let there = (stands_is s c w at e).0 in
           ((plain_field s c w at p e, rest.0), omega arith, λ h. rest.2 (omega arith))
 
 sized_lead : (s : List ℕ) (c w n at : ℕ) → w ≡ plain_size c → Lead s at n (sized s c w n at)

@@ -30,19 +30,19 @@ room_test n w room d e h = rw e (go (leb n (room / d)) refl)
 
 -- Booleans from a place on: none left, one more, or a refusal
 module _ (s : List ℕ) where
-  pub booleans-done : (n at : ℕ) → n ≡ 0 → booleans_end s n at ≡ fine at
+  pub booleans_done : (n at : ℕ) → n ≡ 0 → booleans_end s n at ≡ fine at
   unfolding booleans_end booleans
-  booleans-done n at e = simp (e, add-zero)
+  booleans_done n at e = simp (e, add-zero)
 
-  pub booleans-more : (n m at : ℕ) → n ≡ m + 1 → byte s at ≤ 1 → booleans_end s n at ≡ booleans_end s m (at + 1)
+  pub booleans_more : (n m at : ℕ) → n ≡ m + 1 → byte s at ≤ 1 → booleans_end s n at ≡ booleans_end s m (at + 1)
   unfolding booleans_end booleans
-  booleans-more n m at e h =
+  booleans_more n m at e h =
       let ends : at + suc m ≡ at + 1 + m = omega arith in simp (e, add-one m, le-leb (byte s at) 1 h, ends)
 
-  pub booleans-stop : (n at : ℕ) → 0 < n → 1 < byte s at → booleans_end s n at ≡ refused 10 at
+  pub booleans_stop : (n at : ℕ) → 0 < n → 1 < byte s at → booleans_end s n at ≡ refused 10 at
   unfolding booleans_end booleans
-  booleans-stop zero at h k = absurd (not-suc-le-zero h)
-  booleans-stop (suc n) at h k = simp (lt-leb (byte s at) 1 k)
+  booleans_stop zero at h k = absurd (not-suc-le-zero h)
+  booleans_stop (suc n) at h k = simp (lt-leb (byte s at) 1 k)
 
   -- bytes of which none is above 1
   all_pass_lem : (n at : ℕ) → NoneAbove s n at 1 → booleans s n at ≡ fine tt
@@ -55,9 +55,9 @@ module _ (s : List ℕ) where
       next : (at i : ℕ) → at + suc i ≡ at + 1 + i
       next at i = omega arith
 
-  pub booleans-all : (n at : ℕ) → NoneAbove s n at 1 → fine (at + n) ≡ booleans_end s n at
+  pub booleans_all : (n at : ℕ) → NoneAbove s n at 1 → fine (at + n) ≡ booleans_end s n at
   unfolding booleans_end
-  booleans-all n at h = simp (all_pass_lem n at h)
+  booleans_all n at h = simp (all_pass_lem n at h)
 
   -- one byte more, which is not above what the others are not above, or is the most
   pub none_more : (n at m : ℕ) → NoneAbove s n at m → byte s (at + n) ≤ m → NoneAbove s (n + 1) at m
@@ -67,8 +67,8 @@ module _ (s : List ℕ) where
       go true e = rw (eqb-true i n e) l
       go false e = let d = eqb-false i n e in h i (omega arith)
 
-  pub none-most : (n at m b : ℕ) → NoneAbove s n at m → m ≤ b → NoneAbove s n at b
-  none-most n at m b h l i k = let z = h i k in omega arith
+  pub none_most : (n at m b : ℕ) → NoneAbove s n at m → m ≤ b → NoneAbove s n at b
+  none_most n at m b h l i k = let z = h i k in omega arith
 
 -- every width is at least one byte
 pub width_positive : (c : ℕ) → c ≤ 32 → 1 ≤ width_of c
@@ -87,23 +87,23 @@ width_eight c w h q n1 n2 n4 =
 
 -- sizes of values
 module _ (s : List ℕ) (w n first : ℕ) where
-  size-over : length s < first + n * w → size_of s w n first ≡ refused 1 (length s)
+  size_over : length s < first + n * w → size_of s w n first ≡ refused 1 (length s)
   unfolding size_of
-  size-over h = simp (lt-leb (first + n * w) (length s) h)
+  size_over h = simp (lt-leb (first + n * w) (length s) h)
 
-  pub size-within : first + n * w ≤ length s → size_of s w n first ≡ fine (n * w)
+  pub size_within : first + n * w ≤ length s → size_of s w n first ≡ fine (n * w)
   unfolding size_of
-  size-within h = simp (le-leb (first + n * w) (length s) h)
+  size_within h = simp (le-leb (first + n * w) (length s) h)
 
   pub size_past : length s < first → size_of s w n first ≡ refused 1 (length s)
-  size_past h = size-over (omega arith)
+  size_past h = size_over (omega arith)
 
   -- the test of the room left
   pub size_fits : first ≤ length s → leb (n * w) (length s - first) ≡ true → size_of s w n first ≡ fine (n * w)
-  size_fits k e = let h : n * w ≤ length s - first = leb-true _ _ e in size-within (omega arith)
+  size_fits k e = let h : n * w ≤ length s - first = leb-true _ _ e in size_within (omega arith)
 
-  pub size-short : first ≤ length s → leb (n * w) (length s - first) ≡ false → size_of s w n first ≡ refused 1 (length s)
-  size-short k e = let h : length s - first < n * w = leb-false _ _ e in size-over (omega arith)
+  pub size_short : first ≤ length s → leb (n * w) (length s - first) ≡ false → size_of s w n first ≡ refused 1 (length s)
+  size_short k e = let h : length s - first < n * w = leb-false _ _ e in size_over (omega arith)
 
 -- the width of a code, told by a test
 pub size_told : (s : List ℕ) (c n first : ℕ) {x : ℕ} → x ≡ width_of c → size_of s x n first ≡ size_at s c n first
@@ -115,17 +115,17 @@ unfolding width_of
 size_of_none s c n first h k =
     let w : get_or width_row c 0 ≡ 0 = get_or-eq_default width_row 0 {n = c} (omega arith) in
     let z : n * get_or width_row c 0 ≡ 0 = rw w (mul-zero n) in
-    size-within s _ n first (omega arith) ∙ ap fine z
+    size_within s _ n first (omega arith) ∙ ap fine z
 
 -- values
 module _ (s : List ℕ) (c n first : ℕ) where
-  pub values-stop : (k p : ℕ) → size_at s c n first ≡ refused k p → values_end s c n first ≡ refused k p
+  pub values_stop : (k p : ℕ) → size_at s c n first ≡ refused k p → values_end s c n first ≡ refused k p
   unfolding values_end
-  values-stop k p e = simp e
+  values_stop k p e = simp e
 
-  pub values-boolean : (z : ℕ) → size_at s c n first ≡ fine z → boolean c ≡ true → booleans_end s z first ≡ values_end s c n first
+  pub values_boolean : (z : ℕ) → size_at s c n first ≡ fine z → boolean c ≡ true → booleans_end s z first ≡ values_end s c n first
   unfolding values_end booleans_of booleans_end
-  values-boolean z e b = simp (e, b) (same (booleans s z first))
+  values_boolean z e b = simp (e, b) (same (booleans s z first))
     where
       same : (a : Answer (Unit {0})) → (a >>= (λ pass. fine (first + z))) ≡ ((a >>= (λ pass. fine (first + z))) >>= (λ p. fine (first + z)))
       same (fine u) = refl
@@ -136,9 +136,9 @@ module _ (s : List ℕ) (c n first : ℕ) where
   values_other z e b = simp (e, b)
 
   -- the size is known to lie in s
-  pub size-goes : (z : ℕ) → size_at s c n first ≡ fine z → (z ≡ n * width_of c) × (first + z ≤ length s)
+  pub size_goes : (z : ℕ) → size_at s c n first ≡ fine z → (z ≡ n * width_of c) × (first + z ≤ length s)
   unfolding size_of
-  size-goes z e =
+  size_goes z e =
       let a = needed_bind s first (n * width_of c) _ e in
       let q : n * width_of c ≡ z = fine_eq a.1 in
       (sym q, subst (λ (x : ℕ). first + x ≤ length s) q a.0)

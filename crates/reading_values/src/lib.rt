@@ -1,6 +1,6 @@
 // The values of a payload field: the number of their bytes, and the place after them.
 ghost use Rattle.std.specs.Prelude.{◌≡◌, ◌+◌, ◌*◌, ◌<◌, ◌≤◌, length, leb};
-ghost use Rattle.sim0mq.specs.Codes.{boolean as booleanOf};
+ghost use Rattle.sim0mq.specs.Codes.{boolean as boolean_of};
 ghost use Rattle.sim0mq.specs.Views.{judged};
 ghost use Rattle.reading_values.specs.Values.{size_of, size_at, NoneAbove, booleans_end, values_end};
 
@@ -98,7 +98,7 @@ fn booleans(s: &[u8], n: usize, at: usize) -> Judged
 
 // Whether the values of this code are Booleans.
 fn boolean(code: usize) -> bool
-    ensures { result ≡ booleanOf code }
+    ensures { result ≡ boolean_of code }
 {
     if code == 6 {
         return true;

@@ -23,7 +23,7 @@ use Rattle.recordings_index.specs.declared.Trailed.{Trailed}
 use Rattle.recordings_index.specs.declared.Trailed.TheVariants.{Wrong}
 use Rattle.recordings.specs.Recordings.{Stated, lengths_in, entry_in, size_of, count_of}
 use Rattle.recordings.specs.declared.Placed.{Placed}
-use Rattle.recordings.proofs.StatedLaws.{stated-lengths, stated-many, stated-most}
+use Rattle.recordings.proofs.StatedLaws.{stated_lengths, stated_many, stated_most}
 
 -- trailer or index is wrong
 module _ (s : List ℕ) {w : Trailed} (says : trailed_as w ≡ summed (index s)) (is : w ≡ Wrong) where
@@ -34,21 +34,21 @@ module _ (s : List ℕ) {w : Trailed} (says : trailed_as w ≡ summed (index s))
       go (fine i) e = absurd (not_fine (sym e))
       go (refused k p) e = let a : k ≡ 18 = cc in let b : p ≡ 0 = cc in ap₂ refused a b
 
-  pub open-wrong : refused 18 0 ≡ count_of (opening no_table s)
+  pub open_wrong : refused 18 0 ≡ count_of (opening no_table s)
   unfolding opening
-  open-wrong = sym (simp no_index)
+  open_wrong = sym (simp no_index)
 
-  pub into-wrong : (r : ℕ) → refused 18 0 ≡ count_of (opening (table r) s)
+  pub into_wrong : (r : ℕ) → refused 18 0 ≡ count_of (opening (table r) s)
   unfolding opening
-  into-wrong r = sym (simp no_index)
+  into_wrong r = sym (simp no_index)
 
-  pub into-wrong-kept : (t : List ℕ) (r : ℕ) → t ≡ places_after t (opening (table r) s)
+  pub into_wrong_kept : (t : List ℕ) (r : ℕ) → t ≡ places_after t (opening (table r) s)
   unfolding opening places_after
-  into-wrong-kept t r = sym (simp no_index)
+  into_wrong_kept t r = sym (simp no_index)
 
-  pub ask-wrong : (k : ℕ) → refused 18 0 ≡ asking s k
+  pub ask_wrong : (k : ℕ) → refused 18 0 ≡ asking s k
   unfolding asking
-  ask-wrong k = sym (simp no_index)
+  ask_wrong k = sym (simp no_index)
 
 -- a message that was judged, and what is done with it then
 size_refused : {B : Type 0} (a : Answer Reading) (f : Reading → Answer B) (r : Refusal)
@@ -71,11 +71,11 @@ pub record Judging (s : List ℕ) (t : Trailer) (k : ℕ) : Type 0 where
 
 module _ {s : List ℕ} {t : Trailer} (h : Stated s t) where
   many : length (lengths_in (index s)) ≡ t.entries
-  many = ap length (stated-lengths h) ∙ stated-many h
+  many = ap length (stated_lengths h) ∙ stated_many h
 
-  pub judging-start : Judging s t 0
+  pub judging_start : Judging s t 0
   unfolding opening roomy total
-  judging-start =
+  judging_start =
       let i = h.found in
       let whole : count_of (opening no_table s) ≡ (stretches_from i.edition.most s 0 i.lengths >>= (λ u. fine (length i.lengths)))
       = simp h.is (counted (stretches_from i.edition.most s 0 i.lengths)) in
@@ -83,7 +83,7 @@ module _ {s : List ℕ} {t : Trailer} (h : Stated s t) where
         few = zero-le;
         same =
             whole
-            ∙ (λ j. stretches_from (stated-most h j) s 0 i.lengths >>= (λ u. fine (stated-many h j)))
+            ∙ (λ j. stretches_from (stated_most h j) s 0 i.lengths >>= (λ u. fine (stated_many h j)))
             ∙ ap (λ (a : Answer Index). rest a t.edition.most s t.entries 0) (sym h.is);
       }
     where
@@ -141,7 +141,7 @@ module _ {s : List ℕ} {t : Trailer} (h : Stated s t) where
     unfolding asking
     ask-none e =
         let ns = h.found.lengths in
-        let n = stated-many h in
+        let n = stated_many h in
         sym (simp (h.is, le-ltb k (length ns) (omega arith)))
 
     module _ (f : k < t.entries) {m : Placed} (is : m ≡ entry_in (lengths_in (index s)) k) where
@@ -150,10 +150,10 @@ module _ {s : List ℕ} {t : Trailer} (h : Stated s t) where
       unfolding asking
       there =
           let ns = h.found.lengths in
-          let n = stated-many h in
-          let named : m ≡ entry_in ns k = is ∙ ap (λ (l : List ℕ). entry_in l k) (stated-lengths h) in
+          let n = stated_many h in
+          let named : m ≡ entry_in ns k = is ∙ ap (λ (l : List ℕ). entry_in l k) (stated_lengths h) in
           simp (h.is, lt-ltb k (length ns) (omega arith))
-          ((λ i. stretch (stated-most h i) s (entry_in ns k).start (entry_in ns k).length >>= (λ r. fine (placed_in ns k)))
+          ((λ i. stretch (stated_most h i) s (entry_in ns k).start (entry_in ns k).length >>= (λ r. fine (placed_in ns k)))
           ∙ ap
           (λ (p : Placed). stretch t.edition.most s p.start p.length >>= (λ r. fine (record { start = p.start; size = p.length })))
           (sym named))
@@ -173,18 +173,18 @@ module _ {s : List ℕ} {t : Trailer} (h : Stated s t) where
     unfolding opening roomy
     into-short e =
         let ns = h.found.lengths in
-        sym (simp (h.is, lt-leb (place_size * length ns) r (subst (λ (n : ℕ). r < place_size * n) (sym (stated-many h)) e)))
+        sym (simp (h.is, lt-leb (place_size * length ns) r (subst (λ (n : ℕ). r < place_size * n) (sym (stated_many h)) e)))
 
     pub into-short-kept : (old : List ℕ) → r < place_size * t.entries → old ≡ places_after old (opening (table r) s)
     unfolding opening roomy places_after
     into-short-kept old e =
         let ns = h.found.lengths in
-        sym (simp (h.is, lt-leb (place_size * length ns) r (subst (λ (n : ℕ). r < place_size * n) (sym (stated-many h)) e)))
+        sym (simp (h.is, lt-leb (place_size * length ns) r (subst (λ (n : ℕ). r < place_size * n) (sym (stated_many h)) e)))
 
     module _ (room : place_size * t.entries ≤ r) where
       alike : opening (table r) s ≡ opening no_table s
       alike =
-          (table_is_lent s h.found r h.is).0 (subst (λ (n : ℕ). place_size * n ≤ r) (sym (stated-many h)) room)
+          (table_is_lent s h.found r h.is).0 (subst (λ (n : ℕ). place_size * n ≤ r) (sym (stated_many h)) room)
 
       pub into-alike : count_of (opening no_table s) ≡ count_of (opening (table r) s)
       into-alike = ap count_of (sym alike)
@@ -204,7 +204,7 @@ module _ {s : List ℕ} {t : Trailer} (h : Stated s t) where
       into-stored old n q =
           let i = h.found in
           let all : opening no_table s ≡ (stretches_from i.edition.most s 0 i.lengths >>= (λ u. fine i)) = simp h.is in
-          ap (λ (l : List ℕ). stored old (places 0 l)) (stated-lengths h)
+          ap (λ (l : List ℕ). stored old (places 0 l)) (stated_lengths h)
           ∙ sym (ap (places_after old) (alike ∙ all) ∙ go (stretches_from i.edition.most s 0 i.lengths) (q ∙ ap count_of all))
         where
           go : (a : Answer (Unit {0})) → fine n ≡ count_of (a >>= (λ u. fine h.found))

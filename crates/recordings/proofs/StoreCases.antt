@@ -8,14 +8,14 @@ use native.Mathlib.Numerals.{add-one}
 use lib.ListN.{length, take, drop, get_or, set, length-set}
 use lib.Seq.{take_all, length-take-le}
 use Rattle.sim0mq.specs.Table.{placed, stored}
-use Rattle.sim0mq_buffers.proofs.PlaceLaws.{placed-byte}
-use Rattle.sim0mq.proofs.PlaceLaws.{placed-nothing, placed-length, placed_on}
+use Rattle.sim0mq_buffers.proofs.PlaceLaws.{placed_byte}
+use Rattle.sim0mq.proofs.PlaceLaws.{placed_nothing, placed_length, placed_on}
 use Rattle.dividing.specs.Run.{total}
 use Rattle.recordings_format.specs.Judge.{index, place_size, places}
 use Rattle.recordings_index.specs.declared.Trailer.{Trailer}
 use Rattle.recordings.specs.Recordings.{Stated, lengths_in, entry_in, numbers_of, Storable}
 use Rattle.recordings.specs.declared.Placed.{Placed}
-use Rattle.recordings.proofs.StatedLaws.{stated-lengths, stated-many, stated-few}
+use Rattle.recordings.proofs.StatedLaws.{stated_lengths, stated_many, stated_few}
 
 -- the two numbers of a message, stored one after the other
 pub numbers_placed : (old : List ℕ) (k : ℕ) (m : Placed) → place_size * k + place_size ≤ length old
@@ -23,8 +23,8 @@ pub numbers_placed : (old : List ℕ) (k : ℕ) (m : Placed) → place_size * k 
 unfolding place_size
 numbers_placed old k m h =
     let i = 2 * k in
-    placed-byte (set old i m.start) (i + 1) m.length (omega (arith, length-set old i m.start))
-    ∙ ap (λ (l : List ℕ). placed l (i + 1) (m.length ∷ [])) (placed-byte old i m.start (omega arith))
+    placed_byte (set old i m.start) (i + 1) m.length (omega (arith, length-set old i m.start))
+    ∙ ap (λ (l : List ℕ). placed l (i + 1) (m.length ∷ [])) (placed_byte old i m.start (omega arith))
     ∙ placed_on old i (m.start ∷ []) (m.length ∷ []) (i + 1) refl (omega arith)
 
 -- two numbers for each message
@@ -52,24 +52,24 @@ pub record Storing (s : List ℕ) (t : Trailer) (old new : List ℕ) (k : ℕ) :
 
 pub storing_start : (s : List ℕ) (t : Trailer) (old : List ℕ) → Storing s t old old 0
 unfolding places
-storing_start s t old = record { few = zero-le; long = refl; same = placed-nothing old 0 }
+storing_start s t old = record { few = zero-le; long = refl; same = placed_nothing old 0 }
 
 module _ {s : List ℕ} {t : Trailer} {old new : List ℕ} {k : ℕ} (asked : Stated s t × (place_size * t.entries ≤ length old))
     (u : Storing s t old new k) where
   many : length (lengths_in (index s)) ≡ t.entries
-  many = ap length (stated-lengths asked.0) ∙ stated-many asked.0
+  many = ap length (stated_lengths asked.0) ∙ stated_many asked.0
 
   -- room for the two numbers of a message
-  two-more : k < t.entries → place_size * k + place_size ≤ length old
+  two_more : k < t.entries → place_size * k + place_size ≤ length old
   unfolding place_size
-  two-more f = let room = asked.1 in omega arith
+  two_more f = let room = asked.1 in omega arith
 
-  pub storing-room : k < t.entries → {m : Placed} → (m.start < 4294967296) × (m.length < 4294967296)
+  pub storing_room : k < t.entries → {m : Placed} → (m.start < 4294967296) × (m.length < 4294967296)
       → Storable (length new) k m
-  storing-room f narrow =
+  storing_room f narrow =
       let long = u.long in
-      let few = stated-few asked.0 in
-      let room = two-more f in
+      let few = stated_few asked.0 in
+      let room = two_more f in
       record { few = omega arith; room = omega arith; start = narrow.0; length = narrow.1 }
 
   -- two numbers are as many as a message has
@@ -77,16 +77,16 @@ module _ {s : List ℕ} {t : Trailer} {old new : List ℕ} {k : ℕ} (asked : St
   unfolding place_size
   pair m = refl
 
-  pub storing-turn : (f : k < t.entries) {m : Placed} {next : List ℕ} → m ≡ entry_in (lengths_in (index s)) k
+  pub storing_turn : (f : k < t.entries) {m : Placed} {next : List ℕ} → m ≡ entry_in (lengths_in (index s)) k
       → next ≡ placed new (place_size * k) (numbers_of m) → Storing s t old next (k + 1)
-  storing-turn f {m} {next} is e =
+  storing_turn f {m} {next} is e =
       let ns = lengths_in (index s) in
       let some : k < length ns = omega (arith, many) in
       let done = places 0 (take k ns) in
       let here : length done ≡ place_size * k
       = places_long 0 (take k ns) ∙ ap (λ (n : ℕ). place_size * n) (length-take-le k ns (omega arith)) in
       let long = u.long in
-      let fits : place_size * k + length (numbers_of m) ≤ length old = omega (arith, two-more f, pair m) in
+      let fits : place_size * k + length (numbers_of m) ≤ length old = omega (arith, two_more f, pair m) in
       let numbers : numbers_of m ≡ (0 + total (take k ns)) ∷ get_or ns k 0 ∷ []
       = ap numbers_of is ∙ ap (λ (p : ℕ). p ∷ get_or ns k 0 ∷ []) (sym (zero-add (total (take k ns)))) in
       let both : next ≡ placed old 0 (places 0 (take (k + 1) ns))
@@ -100,14 +100,14 @@ module _ {s : List ℕ} {t : Trailer} {old new : List ℕ} {k : ℕ} (asked : St
         few = omega arith;
         long =
             ap length e
-            ∙ placed-length new (place_size * k) (numbers_of m) (omega arith)
+            ∙ placed_length new (place_size * k) (numbers_of m) (omega arith)
             ∙ u.long;
         same = both;
       }
 
-  pub storing-end : t.entries ≤ k → new ≡ stored old (places 0 (lengths_in (index s)))
+  pub storing_end : t.entries ≤ k → new ≡ stored old (places 0 (lengths_in (index s)))
   unfolding placed stored
-  storing-end e =
+  storing_end e =
       let ns = lengths_in (index s) in
       let all : take k ns ≡ ns = take_all k ns (omega (arith, many)) in
       let at : 0 + length (places 0 ns) ≡ length (places 0 ns) = zero-add (length (places 0 ns)) in

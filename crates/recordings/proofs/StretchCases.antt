@@ -30,9 +30,9 @@ stretch_read most s at n h k =
     simp (le-leb (length m) most (omega arith), le-leb (length m) limit (omega arith))
 
 module _ (most : ℕ) (s : List ℕ) (at n : ℕ) (asked : (at + n ≤ length s) × (most ≤ limit)) where
-  pub stretch-over : most < n → refused 8 at ≡ size_of (stretch most s at n)
+  pub stretch_over : most < n → refused 8 at ≡ size_of (stretch most s at n)
   unfolding stretch message
-  stretch-over h =
+  stretch_over h =
       let within = asked.0 in
       let m = take n (drop at s) in
       let long : length m ≡ n = omega (arith, length-take n (drop at s), length-drop at s) in

@@ -3,7 +3,7 @@ ghost use Rattle.std.specs.Prelude.{◌≡◌, ◌+◌, ◌*◌, ◌≤◌, ◌<
 ghost use Rattle.sim0mq.specs.Message.{limit, no_table, table as table_of};
 ghost use Rattle.sim0mq.specs.Table.{placed, stored};
 ghost use Rattle.sim0mq.specs.Views.{judged};
-ghost use Rattle.recordings_format.specs.Judge.{index as index_of, stretch as stretchOf, place_size, opening, places, places_after, asking};
+ghost use Rattle.recordings_format.specs.Judge.{index as index_of, stretch as stretch_of, place_size, opening, places, places_after, asking};
 ghost use Rattle.recordings.specs.Recordings.{asked_as, Stated, lengths_in, entry_in, numbers_of, Storable, size_of, count_of};
 
 use reading::{Reading, judge};
@@ -46,7 +46,7 @@ fn entry(s: &[u8], t: Trailer, k: usize) -> Placed
 // in the recording.
 fn stretch(s: &[u8], at: usize, n: usize, most: usize) -> Judged
     requires { (at + n ≤ length s.now) × (most ≤ limit) }
-    ensures { judged result ≡ size_of (stretchOf most s.now at n) }
+    ensures { judged result ≡ size_of (stretch_of most s.now at n) }
 {
     if most < n {
         return sim0mq::refuse(8, at);

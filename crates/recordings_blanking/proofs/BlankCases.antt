@@ -17,7 +17,7 @@ use Rattle.sim0mq.specs.Blank.{blanking, output_after}
 use Rattle.sim0mq.specs.Table.{placed, stored}
 use Rattle.sim0mq.specs.Allowed.{joined}
 use Rattle.sim0mq.proofs.Answers.{not_fine}
-use Rattle.sim0mq.proofs.PlaceLaws.{placed-nothing, placed-length, placed_on}
+use Rattle.sim0mq.proofs.PlaceLaws.{placed_nothing, placed_length, placed_on}
 use Rattle.sim0mq_buffers.specs.Placing.{put_in}
 use Rattle.sim0mq_buffers.proofs.PlaceLaws.{put_fits}
 use Rattle.dividing.specs.Front.{Taken}
@@ -26,10 +26,10 @@ use Rattle.recordings_format.specs.Judge.{Index, index, opening, placed_in}
 use Rattle.recordings_format.proofs.IndexLaws.{total_more}
 use Rattle.recordings_index.specs.declared.Trailer.{Trailer}
 use Rattle.recordings.specs.Recordings.{Stated, lengths_in, entry_in, count_of}
-use Rattle.recordings.proofs.StatedLaws.{stated-lengths, stated-many, stated-place, entry-lies}
+use Rattle.recordings.proofs.StatedLaws.{stated_lengths, stated_many, stated_place, entry-lies}
 use Rattle.recordings_blanking.specs.Blanking.{copy_of, copies_in, blanked_recording, blanking_recording}
 use Rattle.recordings_blanking.specs.Copying.{Accepted}
-use Rattle.recordings_blanking.proofs.CopyLaws.{one-long, opened-index, opened-within, opened-nth, copy-blank, copies-are-long}
+use Rattle.recordings_blanking.proofs.CopyLaws.{one_long, opened_index, opened_within, opened_nth, copy_blank, copies_are_long}
 
 -- one copy more
 copies_from : (s : List ℕ) (at : ℕ) (ns : List ℕ) (k : ℕ) → k < length ns
@@ -61,7 +61,7 @@ blank_fits : (m mid : List ℕ) → Taken limit m → length mid ≡ length m �
 unfolding blanking output_after stored copy_of reading
 blank_fits m mid t e =
     let copy = copy_of m in
-    let long = one-long m t in
+    let long = one_long m t in
     let made : blanking (length mid) m ≡ fine copy = simp (t.1, le-leb (length m) (length mid) (omega arith)) in
     let past : drop (length copy) mid ≡ [] = drop_of_length-le mid {i = length copy} (omega arith) in
     ap (output_after mid) made ∙ ap (λ (l : List ℕ). copy ++ l) past ∙ append-nil copy
@@ -72,7 +72,7 @@ blank_part : (m out part : List ℕ) (at n : ℕ) → Taken limit m → length m
 unfolding placed
 blank_part m out part at n t long room e =
     let wide : length (mid_of at n out) ≡ n = length-take-le n (drop at out) (omega (arith, length-drop at out)) in
-    let sized = one-long m t in
+    let sized = one_long m t in
     let end : at + n ≡ at + length (copy_of m) = omega arith in
     let is : part ≡ copy_of m = e ∙ blank_fits m (mid_of at n out) t (omega arith) in
     ap (λ (l : List ℕ). take at out ++ (l ++ drop n (drop at out))) is
@@ -88,7 +88,7 @@ pub record Copying (s : List ℕ) (t : Trailer) (old new : List ℕ) (at k : ℕ
 
 pub copying_start : (s : List ℕ) (t : Trailer) (old : List ℕ) → Copying s t old old 0 0
 unfolding copies_in stretches total flat_map
-copying_start s t old = record { few = zero-le; place = refl; long = refl; sized = refl; same = placed-nothing old 0 }
+copying_start s t old = record { few = zero-le; place = refl; long = refl; sized = refl; same = placed_nothing old 0 }
 
 module _ {s : List ℕ} {t : Trailer} {old new : List ℕ} {at k : ℕ} (asked : Accepted s t × (length s ≤ length old))
     (u : Copying s t old new at k) where
@@ -96,13 +96,13 @@ module _ {s : List ℕ} {t : Trailer} {old new : List ℕ} {at k : ℕ} (asked :
   ns = lengths_in (index s)
 
   stated : lengths_in (index s) ≡ asked.0.stated.found.lengths
-  stated = stated-lengths asked.0.stated
+  stated = stated_lengths asked.0.stated
 
   many : length ns ≡ t.entries
-  many = ap length stated ∙ stated-many asked.0.stated
+  many = ap length stated ∙ stated_many asked.0.stated
 
-  pub copying-end : t.entries ≤ k → new ≡ placed old 0 (copies_in s ns)
-  copying-end e =
+  pub copying_end : t.entries ≤ k → new ≡ placed old 0 (copies_in s ns)
+  copying_end e =
       let n = many in
       u.same ∙ ap (λ (l : List ℕ). placed old 0 (copies_in s l)) (take_all k ns (omega arith))
 
@@ -117,12 +117,12 @@ module _ {s : List ℕ} {t : Trailer} {old new : List ℕ} {at k : ℕ} (asked :
     taken : Taken limit (take n (drop at s))
     taken =
         let i = asked.0.stated.found in
-        let some : k < length i.lengths = (let c = stated-many asked.0.stated in omega arith) in
+        let some : k < length i.lengths = (let c = stated_many asked.0.stated in omega arith) in
         let there : ((placed_in i.lengths k).size ≡ n) × ((placed_in i.lengths k).start ≡ at)
         = (ap (λ (l : List ℕ). get_or l k 0) (sym stated) ∙ sym size, ap (λ (l : List ℕ). total (take k l)) (sym stated) ∙ sym u.place) in
         subst (λ (x : ℕ). Taken limit (take x (drop at s))) there.0
         (subst (λ (x : ℕ). Taken limit (take (placed_in i.lengths k).size (drop x s))) there.1
-        (opened-nth s i asked.0.opened k some))
+        (opened_nth s i asked.0.opened k some))
 
     pub copying-turn : (end : ℕ) (part next : List ℕ) → end ≡ at + n
         → part
@@ -135,7 +135,7 @@ module _ {s : List ℕ} {t : Trailer} {old new : List ℕ} {at k : ℕ} (asked :
         let m = take n (drop at s) in
         let size_is : end - at ≡ n = omega arith in
         let long : length m ≡ n = length-take-le n (drop at s) (omega (arith, length-drop at s)) in
-        let copied = one-long m taken in
+        let copied = one_long m taken in
         let before = copies_in s (take k ns) in
         let sized = u.sized in
         let some : k < length ns = (let c = many in omega arith) in
@@ -150,7 +150,7 @@ module _ {s : List ℕ} {t : Trailer} {old new : List ℕ} {at k : ℕ} (asked :
           few = omega arith;
           place =
               e ∙ (λ i. u.place i + size i) ∙ sym (rw (add-one k) (total_more ns k some));
-          long = ap length written ∙ placed-length new at (copy_of m) (omega arith) ∙ kept;
+          long = ap length written ∙ placed_length new at (copy_of m) (omega arith) ∙ kept;
           sized = ap length all ∙ length-append before (copy_of m) ∙ omega arith;
           same =
               written
@@ -161,11 +161,11 @@ module _ {s : List ℕ} {t : Trailer} {old new : List ℕ} {at k : ℕ} (asked :
 
 -- a recording that opens
 module _ {s : List ℕ} {t : Trailer} (h : Stated s t) where
-  pub opened-is : (n : ℕ) → fine n ≡ count_of (opening no_table s) → Accepted s t
-  opened-is n q = record { stated = h; opened = go (opening no_table s) refl q }
+  pub opened_is : (n : ℕ) → fine n ≡ count_of (opening no_table s) → Accepted s t
+  opened_is n q = record { stated = h; opened = go (opening no_table s) refl q }
     where
       go : (a : Answer Index) → opening no_table s ≡ a → fine n ≡ count_of a → a ≡ fine h.found
-      go (fine i) e c = sym (opened-index s i e) ∙ h.is
+      go (fine i) e c = sym (opened_index s i e) ∙ h.is
       go (refused k p) e c = absurd (not_fine (sym c))
 
 -- what the code answers, and the output then
@@ -173,10 +173,10 @@ module _ (s out : List ℕ) where
   abbrev answer : Answer (List ℕ)
   answer = blanking_recording (length out) s
 
-  pub copied-refused : (k p : ℕ) → refused k p ≡ count_of (opening no_table s)
+  pub copied_refused : (k p : ℕ) → refused k p ≡ count_of (opening no_table s)
       → (refused k p ≡ length_of answer) × (out ≡ output_after out answer)
   unfolding blanking_recording output_after
-  copied-refused k p q =
+  copied_refused k p q =
       let e = go (opening no_table s) q in (sym (ap length_of e), sym (ap (output_after out) e))
     where
       go : (a : Answer Index) → refused k p ≡ count_of a
@@ -193,8 +193,8 @@ module _ (s out : List ℕ) where
 
     pub copied-place : t.place ≤ length s
     copied-place =
-        let place = stated-place h.stated in
-        let within = opened-within s h.stated.found h.opened in
+        let place = stated_place h.stated in
+        let within = opened_within s h.stated.found h.opened in
         omega arith
 
     pub copied-made : (mid new : List ℕ) → length s ≤ length out → mid ≡ placed out 0 (copies_in s (lengths_in (index s)))
@@ -204,22 +204,22 @@ module _ (s out : List ℕ) where
     copied-made mid new room is put =
         let i = h.stated.found in
         let ns = i.lengths in
-        let place : total ns ≡ t.place = stated-place h.stated in
+        let place : total ns ≡ t.place = stated_place h.stated in
         let within = copied-place in
         let copies = copies_in s ns in
         let tail = drop (total ns) s in
         let copy = blanked_recording s ns in
-        let long : length copy ≡ length s = (copy-blank s i h.opened).long in
-        let front : length copies ≡ total ns = copies-are-long s i h.opened in
+        let long : length copy ≡ length s = (copy_blank s i h.opened).long in
+        let front : length copies ≡ total ns = copies_are_long s i h.opened in
         let e : answer ≡ fine copy = simp (h.opened, le-leb (length s) (length out) room) in
         let rest : take (length s - t.place) (drop t.place s) ≡ tail
         =
         take_all (length s - t.place) (drop t.place s) (omega (arith, length-drop t.place s))
         ∙ ap (λ (p : ℕ). drop p s) (sym place) in
         let first : mid ≡ placed out 0 copies
-        = is ∙ ap (λ (l : List ℕ). placed out 0 (copies_in s l)) (stated-lengths h.stated) in
+        = is ∙ ap (λ (l : List ℕ). placed out 0 (copies_in s l)) (stated_lengths h.stated) in
         let kept : length mid ≡ length out
-        = ap length first ∙ placed-length out 0 copies (omega arith) in
+        = ap length first ∙ placed_length out 0 copies (omega arith) in
         let fits : total ns + length tail ≤ length mid = omega (arith, length-drop (total ns) s) in
         let whole : new ≡ placed out 0 copy
         =

@@ -29,7 +29,7 @@ use Rattle.recordings_format.proofs.SoundLaws.{stretches_long, stretches_sound}
 use Rattle.recordings_index.proofs.TailLaws.{index_same}
 use Rattle.recordings_blanking.specs.Blanking.{fields_of, copy_of, copies_in, blanked_recording}
 use Rattle.recordings_blanking.specs.Promises.{fields_over, fields_in}
-use Rattle.recordings_blanking.proofs.JoinLaws.{Side, first, second, side, value_inside, blank_join, build-first, build-second}
+use Rattle.recordings_blanking.proofs.JoinLaws.{Side, first, second, side, value_inside, blank_join, build_first, build_second}
 
 -- one message
 module _ (m : List ℕ) (t : Taken limit m) where
@@ -40,12 +40,12 @@ module _ (m : List ℕ) (t : Taken limit m) where
   one_inside : Each (Inside (length m)) (fields_of (reading no_table m))
   one_inside = rw read (inside no_table m t.0 read)
 
-  one-blank : IsBlank m (fields_of (reading no_table m)) (copy_of m)
+  one_blank : IsBlank m (fields_of (reading no_table m)) (copy_of m)
   unfolding copy_of
-  one-blank = rw read (copy_is_blank no_table m t.0 read)
+  one_blank = rw read (copy_is_blank no_table m t.0 read)
 
-  pub one-long : length (copy_of m) ≡ length m
-  one-long = one-blank.long
+  pub one_long : length (copy_of m) ≡ length m
+  one_long = one_blank.long
 
   one_alike : reading no_table (copy_of m) ≡ reading no_table m
   unfolding copy_of
@@ -61,14 +61,14 @@ unfolding reading
 one_taken most m h t =
     let wide = taken_wider most limit m h t in
     let short = taken_short most m t in
-    let long = one-long m wide in
+    let long = one_long m wide in
     let same = message_within most limit (copy_of m) (omega arith) (omega arith) in
     (wide.0, same ∙ one_alike m wide ∙ wide.1)
 
 -- many of them, end to end, and what follows them
 copies_long : (ms : List (List ℕ)) → Each (Taken limit) ms → map length (map copy_of ms) ≡ map length ms
 copies_long [] none = refl
-copies_long (m ∷ ms) (more t ts) = ap₂ ◌∷◌ (one-long m t) (copies_long ms ts)
+copies_long (m ∷ ms) (more t ts) = ap₂ ◌∷◌ (one_long m t) (copies_long ms ts)
 
 copies_taken : (most : ℕ) (ms : List (List ℕ)) → most ≤ limit → Each (Taken most) ms → Each (Taken most) (map copy_of ms)
 copies_taken most [] h none = none
@@ -86,7 +86,7 @@ over_blank (m ∷ ms) tail (more t ts) =
     subst₂ (λ (a b : List ℕ). IsBlank a (fields_over (m ∷ ms)) b) (sym (append_assoc m (joined ms) tail))
     (sym (append_assoc (copy_of m) (joined (map copy_of ms)) tail))
     (blank_join m (joined ms ++ tail) (copy_of m) (joined (map copy_of ms) ++ tail) (fields_of (reading no_table m)) (fields_over ms)
-    (one_inside m t) (one-blank m t) (over_blank ms tail ts))
+    (one_inside m t) (one_blank m t) (over_blank ms tail ts))
 
 -- their value bytes lie in them
 over_within : (ms : List (List ℕ)) (i : ℕ) → Each (Taken limit) ms → ValueByte (fields_over ms) i → i < length (joined ms)
@@ -107,7 +107,7 @@ unfolding fields_over
 over_alike [] none = refl
 over_alike (m ∷ ms) (more t ts) =
     let alike = one_alike m t in
-    let long = one-long m t in
+    let long = one_long m t in
     let later = over_alike ms ts in
     λ k. fields_of (alike k) ++ map (moved (long k)) (later k)
 
@@ -127,9 +127,9 @@ over_built (m ∷ ms) (n ∷ ns) a b (more t ts) (more u us) e x =
     =
     subst₂ (λ (p q : List ℕ). SameBuild (fields_over (m ∷ ms)) p q) (append_assoc m (joined ms) a)
     (append_assoc n (joined ns) b) x in
-    let here : SameBuild fs m n = build-first m (joined ms ++ a) n (joined ns ++ b) fs gs long y in
+    let here : SameBuild fs m n = build_first m (joined ms ++ a) n (joined ns ++ b) fs gs long y in
     let there : SameBuild gs (joined ms ++ a) (joined ns ++ b)
-    = build-second m (joined ms ++ a) n (joined ns ++ b) fs gs long y (one_inside m t) in
+    = build_second m (joined ms ++ a) n (joined ns ++ b) fs gs long y (one_inside m t) in
     let same : t.0 ≡ u.0
     =
     (copy_tells_only_the_build no_table m n t.0 u.0 (read m t) (read n u)).1
@@ -195,85 +195,85 @@ module _ (s : List ℕ) (i : Index) (q : opening no_table s ≡ fine i) where
             (stretches_sound a.0.edition.most s 0 a.0.lengths b.1),
       )
 
-  pub opened-index : index s ≡ fine i
-  opened-index = found.0
+  pub opened_index : index s ≡ fine i
+  opened_index = found.0
 
-  pub opened-within : total ns ≤ length s
-  opened-within = let fills = (index_says s i opened-index).fills in below (total ns) _ (length s) fills
+  pub opened_within : total ns ≤ length s
+  opened_within = let fills = (index_says s i opened_index).fills in below (total ns) _ (length s) fills
     where
       below : (p n l : ℕ) → p + n + trailer_size ≡ l → p ≤ l
       below p n l e = omega arith
 
-  most-within : i.edition.most ≤ limit
-  most-within = (index_says s i opened-index).row.within
+  most_within : i.edition.most ≤ limit
+  most_within = (index_says s i opened_index).row.within
 
-  pub opened-each : Each (Taken limit) ms
-  opened-each = each_wider i.edition.most limit ms most-within found.1
+  pub opened_each : Each (Taken limit) ms
+  opened_each = each_wider i.edition.most limit ms most_within found.1
 
-  lengths-are : map length ms ≡ ns
-  lengths-are = stretches_long s 0 ns (let h = opened-within in omega arith)
+  lengths_are : map length ms ≡ ns
+  lengths_are = stretches_long s 0 ns (let h = opened_within in omega arith)
 
   -- the messages, and then the rest
   whole : joined ms ++ drop (total ns) s ≡ s
   whole = ap (λ (l : List ℕ). l ++ drop (total ns) s) (stretches_joined s 0 ns) ∙ take-append-drop (total ns) s
 
-  messages-long : length (joined ms) ≡ total ns
-  messages-long = let h = opened-within in ap length (stretches_joined s 0 ns) ∙ length-take-le (total ns) s h
+  messages_long : length (joined ms) ≡ total ns
+  messages_long = let h = opened_within in ap length (stretches_joined s 0 ns) ∙ length-take-le (total ns) s h
 
   abbrev copy : List ℕ
   copy = blanked_recording s ns
 
-  pub copy-blank : IsBlank s (fields_in s ns) copy
+  pub copy_blank : IsBlank s (fields_in s ns) copy
   unfolding blanked_recording copies_in
-  copy-blank = subst (λ (l : List ℕ). IsBlank l (fields_in s ns) copy) whole (over_blank ms (drop (total ns) s) opened-each)
+  copy_blank = subst (λ (l : List ℕ). IsBlank l (fields_in s ns) copy) whole (over_blank ms (drop (total ns) s) opened_each)
 
   -- the copies are as long as their messages
-  pub copies-are-long : length (copies_in s ns) ≡ total ns
+  pub copies_are_long : length (copies_in s ns) ≡ total ns
   unfolding copies_in
-  copies-are-long =
-      joined_long (map copy_of ms) ∙ ap total (copies_long ms opened-each) ∙ sym (joined_long ms) ∙ messages-long
+  copies_are_long =
+      joined_long (map copy_of ms) ∙ ap total (copies_long ms opened_each) ∙ sym (joined_long ms) ∙ messages_long
 
-  copy-ends : drop (total ns) copy ≡ drop (total ns) s
+  copy_ends : drop (total ns) copy ≡ drop (total ns) s
   unfolding blanked_recording
-  copy-ends = drop_at (copies_in s ns) (drop (total ns) s) (total ns) copies-are-long
+  copy_ends = drop_at (copies_in s ns) (drop (total ns) s) (total ns) copies_are_long
 
   pub copy_cut : stretches copy 0 ns ≡ map copy_of ms
   unfolding blanked_recording copies_in
   copy_cut =
-      let lengths : ns ≡ map length (map copy_of ms) = sym (copies_long ms opened-each ∙ lengths-are) in
+      let lengths : ns ≡ map length (map copy_of ms) = sym (copies_long ms opened_each ∙ lengths_are) in
       ap (stretches copy 0) lengths ∙ stretches_over copy 0 (map copy_of ms) (drop (total ns) s) refl
 
-  copy-index : index copy ≡ fine i
-  copy-index = index_same s copy i (sym copy-blank.long) (sym copy-ends) opened-index
+  copy_index : index copy ≡ fine i
+  copy_index = index_same s copy i (sym copy_blank.long) (sym copy_ends) opened_index
 
-  pub copy-opens : opening no_table copy ≡ fine i
-  copy-opens =
-      opening_fine copy i copy-index
+  pub copy_opens : opening no_table copy ≡ fine i
+  copy_opens =
+      opening_fine copy i copy_index
       (subst (λ (l : List (List ℕ)). Each (Taken i.edition.most) l) (sym copy_cut)
-      (copies_taken i.edition.most ms most-within found.1))
+      (copies_taken i.edition.most ms most_within found.1))
 
   -- a message of it is accepted, and asking finds it
-  taken-nth : (k : ℕ) → k < length ns → Taken i.edition.most (take (placed_in ns k).size (drop (placed_in ns k).start s))
-  taken-nth k h =
+  taken_nth : (k : ℕ) → k < length ns → Taken i.edition.most (take (placed_in ns k).size (drop (placed_in ns k).start s))
+  taken_nth k h =
       subst (λ (m : List ℕ). Taken i.edition.most m) (nth_is s ns k h)
       (each_nth i.edition.most ms k (omega (arith, stretches_many s 0 ns)) found.1)
 
-  pub opened-nth : (k : ℕ) → k < length ns → Taken limit (take (placed_in ns k).size (drop (placed_in ns k).start s))
-  opened-nth k h = taken_wider i.edition.most limit _ most-within (taken-nth k h)
+  pub opened_nth : (k : ℕ) → k < length ns → Taken limit (take (placed_in ns k).size (drop (placed_in ns k).start s))
+  opened_nth k h = taken_wider i.edition.most limit _ most_within (taken_nth k h)
 
-  pub opened-asks : (k : ℕ) → k < length ns → asking s k ≡ fine (placed_in ns k)
+  pub opened_asks : (k : ℕ) → k < length ns → asking s k ≡ fine (placed_in ns k)
   unfolding asking stretch
-  opened-asks k h = simp (opened-index, lt-ltb k (length ns) h, (taken-nth k h).1)
+  opened_asks k h = simp (opened_index, lt-ltb k (length ns) h, (taken_nth k h).1)
 
 -- two recordings that open
 module _ (s t : List ℕ) (i j : Index) (q : opening no_table s ≡ fine i) (r : opening no_table t ≡ fine j) where
   -- the same copy, so the same entries, the same fields and the same build
   pub same_build : blanked_recording s i.lengths ≡ blanked_recording t j.lengths → SameBuild (fields_in s i.lengths) s t
   same_build e =
-      let a = copy-blank s i q in
-      let b = copy-blank t j r in
+      let a = copy_blank s i q in
+      let b = copy_blank t j r in
       let alike : i ≡ j
-      = fine_eq (sym (copy-opens s i q) ∙ ap (opening no_table) e ∙ copy-opens t j r) in
+      = fine_eq (sym (copy_opens s i q) ∙ ap (opening no_table) e ∙ copy_opens t j r) in
       let cuts : map copy_of (stretches s 0 i.lengths) ≡ map copy_of (stretches t 0 j.lengths)
       =
       sym (copy_cut s i q)
@@ -281,9 +281,9 @@ module _ (s t : List ℕ) (i j : Index) (q : opening no_table s ≡ fine i) (r :
       ∙ copy_cut t j r in
       let fields : fields_in t j.lengths ≡ fields_in s i.lengths
       =
-      sym (over_alike (stretches t 0 j.lengths) (opened-each t j r))
+      sym (over_alike (stretches t 0 j.lengths) (opened_each t j r))
       ∙ ap fields_over (sym cuts)
-      ∙ over_alike (stretches s 0 i.lengths) (opened-each s i q) in
+      ∙ over_alike (stretches s 0 i.lengths) (opened_each s i q) in
       record {
         long = sym a.long ∙ ap length e ∙ b.long;
         same =
@@ -303,25 +303,25 @@ module _ (s t : List ℕ) (i j : Index) (q : opening no_table s ≡ fine i) (r :
         get_or-drop at s n 0
         ∙ x.same (at + n)
         (λ v.
-        let within = over_within (stretches s 0 i.lengths) (at + n) (opened-each s i q) v in
-        let long = messages-long s i q in
+        let within = over_within (stretches s 0 i.lengths) (at + n) (opened_each s i q) v in
+        let long = messages_long s i q in
         omega arith)
         ∙ sym (get_or-drop at t n 0))
 
     -- so the entries are the same
     pub same_entries : i ≡ j
     same_entries =
-        fine_eq (sym (index_same s t i x.long ends (opened-index s i q)) ∙ opened-index t j r)
+        fine_eq (sym (index_same s t i x.long ends (opened_index s i q)) ∙ opened_index t j r)
 
     -- and the fields are, and the copies
     pub same_copy : blanked_recording s i.lengths ≡ blanked_recording t j.lengths
     same_copy =
         let lengths : map length (stretches s 0 i.lengths) ≡ map length (stretches t 0 j.lengths)
-        = lengths-are s i q ∙ ap (λ (y : Index). y.lengths) same_entries ∙ sym (lengths-are t j r) in
+        = lengths_are s i q ∙ ap (λ (y : Index). y.lengths) same_entries ∙ sym (lengths_are t j r) in
         let fields : fields_in s i.lengths ≡ fields_in t j.lengths
         =
         over_built (stretches s 0 i.lengths) (stretches t 0 j.lengths) (drop (total i.lengths) s)
-        (drop (total j.lengths) t) (opened-each s i q) (opened-each t j r) lengths
+        (drop (total j.lengths) t) (opened_each s i q) (opened_each t j r) lengths
         (subst₂ (λ (a b : List ℕ). SameBuild (fields_in s i.lengths) a b) (sym (whole s i q)) (sym (whole t j r)) x) in
-        blank_same s t _ _ (fields_in s i.lengths) x.long x.same (copy-blank s i q)
-        (subst (λ (fs : List Field). IsBlank t fs (blanked_recording t j.lengths)) (sym fields) (copy-blank t j r))
+        blank_same s t _ _ (fields_in s i.lengths) x.long x.same (copy_blank s i q)
+        (subst (λ (fs : List Field). IsBlank t fs (blanked_recording t j.lengths)) (sym fields) (copy_blank t j r))

@@ -68,8 +68,8 @@ module _ (a b c d : List ℕ) (fs gs : List Field) (inside : Each (Inside (lengt
   abbrev both : List Field
   both = fs ++ map (moved (length a)) gs
 
-  blank-zeros : (i : ℕ) → ValueByte both i → byte (c ++ d) i ≡ 0
-  blank-zeros i v = go (side fs gs (length a) i v)
+  blank_zeros : (i : ℕ) → ValueByte both i → byte (c ++ d) i ≡ 0
+  blank_zeros i v = go (side fs gs (length a) i v)
     where
       go : Side fs gs (length a) i → byte (c ++ d) i ≡ 0
       go (first w) =
@@ -77,8 +77,8 @@ module _ (a b c d : List ℕ) (fs gs : List Field) (inside : Each (Inside (lengt
           byte_first c d i (omega (arith, x.long)) ∙ x.zeros i w
       go (second j e w) = ap (byte (c ++ d)) e ∙ byte_second c d (length a) j x.long ∙ y.zeros j w
 
-  blank-elsewhere : (i : ℕ) → (ValueByte both i → ⊥) → byte (c ++ d) i ≡ byte (a ++ b) i
-  blank-elsewhere i v = go (ltb i (length a)) refl
+  blank_elsewhere : (i : ℕ) → (ValueByte both i → ⊥) → byte (c ++ d) i ≡ byte (a ++ b) i
+  blank_elsewhere i v = go (ltb i (length a)) refl
     where
       go : (t : Bool) → ltb i (length a) ≡ t → byte (c ++ d) i ≡ byte (a ++ b) i
       go true e =
@@ -105,15 +105,15 @@ module _ (a b c d : List ℕ) (fs gs : List Field) (inside : Each (Inside (lengt
   blank_join =
       record {
         long = length-append c d ∙ (λ k. x.long k + y.long k) ∙ sym (length-append a b);
-        zeros = blank-zeros;
-        same = blank-elsewhere;
+        zeros = blank_zeros;
+        same = blank_elsewhere;
       }
 
 -- alike in the whole, so alike in each
 module _ (a b c d : List ℕ) (fs gs : List Field) (long : length a ≡ length c)
     (x : SameBuild (fs ++ map (moved (length a)) gs) (a ++ b) (c ++ d)) where
-  pub build-first : SameBuild fs a c
-  build-first = record { long = long; same = λ i v. go i v (ltb i (length a)) refl }
+  pub build_first : SameBuild fs a c
+  build_first = record { long = long; same = λ i v. go i v (ltb i (length a)) refl }
     where
       apart : (i : ℕ) → i < length a → (ValueByte fs i → ⊥) → Side fs gs (length a) i → ⊥
       apart i h v (first w) = v w
@@ -129,8 +129,8 @@ module _ (a b c d : List ℕ) (fs gs : List Field) (long : length a ≡ length c
           let past = ltb-false i (length a) e in
           get_or-eq_default a 0 past ∙ sym (get_or-eq_default c 0 {n = i} (omega arith))
 
-  pub build-second : Each (Inside (length a)) fs → SameBuild gs b d
-  build-second inside =
+  pub build_second : Each (Inside (length a)) fs → SameBuild gs b d
+  build_second inside =
       record {
         long = omega (arith, x.long, length-append a b, length-append c d);
         same =

@@ -15,19 +15,19 @@ use Rattle.recordings_blanking.specs.Promises.{
   RecordingCopyTellsOnlyTheBuild,
   BlankedOrRefused,
 }
-use Rattle.recordings_blanking.proofs.CopyLaws.{nth_is, copied_nth, copy-blank, copy_cut, copy-opens, opened-asks, same_build, same_entries, same_copy}
+use Rattle.recordings_blanking.proofs.CopyLaws.{nth_is, copied_nth, copy_blank, copy_cut, copy_opens, opened_asks, same_build, same_entries, same_copy}
 
 pub recording_copy_is_blank : RecordingCopyIsBlank
-recording_copy_is_blank s i q = copy-blank s i q
+recording_copy_is_blank s i q = copy_blank s i q
 
 pub recording_copy_opens_alike : RecordingCopyOpensAlike
-recording_copy_opens_alike s i q = copy-opens s i q
+recording_copy_opens_alike s i q = copy_opens s i q
 
 pub asked_of_the_copy : AskedOfTheCopy
 asked_of_the_copy s i k q h =
     let ns = i.lengths in
     let copy = blanked_recording s ns in (
-      opened-asks copy i (copy-opens s i q) k h ∙ sym (opened-asks s i q k h),
+      opened_asks copy i (copy_opens s i q) k h ∙ sym (opened_asks s i q k h),
       sym (nth_is copy ns k h)
           ∙ ap (λ (l : List (List ℕ)). get_or l k []) (copy_cut s i q)
           ∙ copied_nth (stretches s 0 ns) k (omega (arith, stretches_many s 0 ns))

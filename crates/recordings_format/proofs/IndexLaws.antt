@@ -24,9 +24,9 @@ module _ (s : List ℕ) (w : ℕ) where
     pub all : big s (p + 4) w ∷ others ≡ ns
     pub rest : entries_from s w n (p + (4 + w)) (at + big s (p + 4) w) end ≡ fine others
 
-  pub entries-first : (n p at end : ℕ) (ns : List ℕ) → entries_from s w (suc n) p at end ≡ fine ns → First n p at end ns
+  pub entries_first : (n p at end : ℕ) (ns : List ℕ) → entries_from s w (suc n) p at end ≡ fine ns → First n p at end ns
   unfolding entries_from
-  entries-first n p at end ns q =
+  entries_first n p at end ns q =
       let g = guarded_bind (eqb (big s p 4) at) _ _ _ q in
       let size = big s (p + 4) w in
       let b = bind_fine (entries_from s w n (p + (4 + w)) (at + size) end) _ g.1 in
@@ -37,17 +37,17 @@ module _ (s : List ℕ) (w : ℕ) where
   entries_none p at end ns q = let g = guarded (eqb at end) _ _ _ q in (eqb-true at end g.0, fine_eq g.1)
 
   -- as many lengths as entries, and they reach the end
-  pub entries-many : (n p at end : ℕ) (ns : List ℕ) → entries_from s w n p at end ≡ fine ns
+  pub entries_many : (n p at end : ℕ) (ns : List ℕ) → entries_from s w n p at end ≡ fine ns
       → (length ns ≡ n) × (at + total ns ≡ end)
   unfolding total
-  entries-many zero p at end ns q =
+  entries_many zero p at end ns q =
       let g = entries_none p at end ns q in
       let h = g.0 in
       subst (λ (l : List ℕ). (length l ≡ 0) × (at + total l ≡ end)) g.1 (refl, omega arith)
-  entries-many (suc n) p at end ns q =
-      let f = entries-first n p at end ns q in
+  entries_many (suc n) p at end ns q =
+      let f = entries_first n p at end ns q in
       let size = big s (p + 4) w in
-      let r = entries-many n (p + (4 + w)) (at + size) end f.others f.rest in
+      let r = entries_many n (p + (4 + w)) (at + size) end f.others f.rest in
       let many = r.0 in
       let sum = r.1 in
       subst (λ (l : List ℕ). (length l ≡ suc n) × (at + total l ≡ end)) f.all (omega arith, omega arith)
@@ -57,21 +57,21 @@ module _ (s : List ℕ) (w : ℕ) where
     pub start : big s (p + (4 + w) * k) 4 ≡ at + total (take k ns)
     pub size : big s (p + (4 + w) * k + 4) w ≡ get_or ns k 0
 
-  pub entries-nth : (n p at end : ℕ) (ns : List ℕ) (k : ℕ) → entries_from s w n p at end ≡ fine ns → k < n → Nth p at ns k
+  pub entries_nth : (n p at end : ℕ) (ns : List ℕ) (k : ℕ) → entries_from s w n p at end ≡ fine ns → k < n → Nth p at ns k
   unfolding total
-  entries-nth zero p at end ns k q h = absurd (not-suc-le-zero h)
-  entries-nth (suc n) p at end ns zero q h =
-      let f = entries-first n p at end ns q in
+  entries_nth zero p at end ns k q h = absurd (not-suc-le-zero h)
+  entries_nth (suc n) p at end ns zero q h =
+      let f = entries_first n p at end ns q in
       let here : p + (4 + w) * 0 ≡ p = ap (λ (x : ℕ). p + x) (mul-zero ((4 + w))) ∙ add-zero p in
       subst (λ (l : List ℕ). Nth p at l 0) f.all
       (record {
         start = ap (λ (x : ℕ). big s x 4) here ∙ f.start ∙ sym (add-zero at);
         size = ap (λ (x : ℕ). big s (x + 4) w) here;
       })
-  entries-nth (suc n) p at end ns (suc k) q h =
-      let f = entries-first n p at end ns q in
+  entries_nth (suc n) p at end ns (suc k) q h =
+      let f = entries_first n p at end ns q in
       let size = big s (p + 4) w in
-      let r = entries-nth n (p + (4 + w)) (at + size) end f.others k f.rest (omega arith) in
+      let r = entries_nth n (p + (4 + w)) (at + size) end f.others k f.rest (omega arith) in
       let there : p + (4 + w) * suc k ≡ p + (4 + w) + (4 + w) * k = omega (arith, mul-suc ((4 + w)) k) in
       let sum : at + size + total (take k f.others) ≡ at + (size + total (take k f.others)) = omega arith in
       subst (λ (l : List ℕ). Nth p at l (suc k)) f.all
@@ -143,7 +143,7 @@ index_says s i q =
     let f = trailer_says s t a.1 in
     let c = bind_fine (entries_from s e.length_bytes t.entries t.place 0 t.place) _ a.2 in
     let ns = c.0 in
-    let m = entries-many s e.length_bytes t.entries t.place 0 t.place ns c.1 in
+    let m = entries_many s e.length_bytes t.entries t.place 0 t.place ns c.1 in
     let many : t.entries ≡ length ns = sym m.0 in
     let place : t.place ≡ total ns = sym m.1 ∙ zero-add (total ns) in
     let few = f.few in

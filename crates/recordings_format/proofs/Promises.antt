@@ -26,7 +26,7 @@ use Rattle.recordings_format.specs.Promises.{opening_numbers, asking_numbers, Op
 use Rattle.recordings_format.proofs.EditionLaws.{listed_row}
 use Rattle.recordings_format.proofs.TextLaws.{joined_long, recording_tail}
 use Rattle.recordings_format.proofs.CompleteLaws.{index_complete, opening_complete}
-use Rattle.recordings_format.proofs.SoundLaws.{index-sound, opening_sound}
+use Rattle.recordings_format.proofs.SoundLaws.{index_sound, opening_sound}
 use Rattle.recordings_format.proofs.RefusalLaws.{Told, opening_told, asking_told, stretch_not_sixteen}
 
 pub opens_the_recordings : OpensTheRecordings
@@ -66,7 +66,7 @@ pub demands_speak_of_each : DemandsSpeakOfEach
 demands_speak_of_each e ms s i = each_demanded e.most ms (listed_row e i.listed).within i.each
 
 pub index_is_the_tail : IndexIsTheTail
-index_is_the_tail s i bytes = (index-sound s bytes i, index_complete i.edition i.lengths s)
+index_is_the_tail s i bytes = (index_sound s bytes i, index_complete i.edition i.lengths s)
 
 -- the lengths before a message, the message's, and the place that they come to
 joined_over : (before after : List (List ℕ)) → joined (before ++ after) ≡ joined before ++ joined after

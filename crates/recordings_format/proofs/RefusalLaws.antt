@@ -42,10 +42,10 @@ Told numbers s (fine a) = Unit {0}
 Told numbers s (refused k p) = IsRefusal numbers s k p
 
 module _ (numbers s : List ℕ) where
-  bind-told : {A B : Type 0} (a : Answer A) (f : A → Answer B) → Told numbers s a
+  bind_told : {A B : Type 0} (a : Answer A) (f : A → Answer B) → Told numbers s a
       → ((x : A) → a ≡ fine x → Told numbers s (f x)) → Told numbers s (a >>= f)
-  bind-told (fine x) f h go = go x refl
-  bind-told (refused k p) f h go = h
+  bind_told (fine x) f h go = go x refl
+  bind_told (refused k p) f h go = h
 
   guard_told : {B : Type 0} (t : Bool) (k : ℕ) (b : Answer B) → among k numbers ≡ true → (t ≡ true → Told numbers s b)
       → Told numbers s (guard t k 0 >> b)
@@ -66,7 +66,7 @@ module _ (numbers s : List ℕ) where
     numbers-told : (number place entries at : ℕ) → Told numbers s (trailer_from number place entries at)
     unfolding trailer_from
     numbers-told number place entries at =
-        bind-told (edition_of number) _ (edition-told editions number)
+        bind_told (edition_of number) _ (edition-told editions number)
         (λ e is.
         let right = fine (record { edition = e; place = place; entries = entries }) in
         let fills = eqb (place + entry_size e * entries) at in
@@ -81,9 +81,9 @@ module _ (numbers s : List ℕ) where
     unfolding entries_from
     entries-told w zero p at end = guard_told (eqb at end) 18 _ eighteen (λ t. tt)
     entries-told w (suc n) p at end =
-        bind-told (guard (eqb (big s p 4) at) 18 0) _ (start (eqb (big s p 4) at))
+        bind_told (guard (eqb (big s p 4) at) 18 0) _ (start (eqb (big s p 4) at))
         (λ u is.
-        bind-told (entries_from s w n (p + (4 + w)) (at + big s (p + 4) w) end) _
+        bind_told (entries_from s w n (p + (4 + w)) (at + big s (p + 4) w) end) _
         (entries-told w n (p + (4 + w)) (at + big s (p + 4) w) end) (λ ns found. tt))
       where
         start : (t : Bool) → Told numbers s (guard t 18 0)
@@ -93,9 +93,9 @@ module _ (numbers s : List ℕ) where
     index-told : Told numbers s (index s)
     unfolding index
     index-told =
-        bind-told (trailer s) _ trailer-told
+        bind_told (trailer s) _ trailer-told
         (λ t is.
-        bind-told (entries_from s t.edition.length_bytes t.entries t.place 0 t.place) _
+        bind_told (entries_from s t.edition.length_bytes t.entries t.place 0 t.place) _
         (entries-told t.edition.length_bytes t.entries t.place 0 t.place) (λ ns found. tt))
 
   -- a message that lies in the recording is refused by its own number, at a place in it
@@ -119,14 +119,14 @@ module _ (numbers s : List ℕ) where
     unfolding stretches_from total
     stretches-told most at [] h = tt
     stretches-told most at (n ∷ ns) h =
-        bind-told (stretch most s at n) _ (stretch-told most at n (omega arith))
+        bind_told (stretch most s at n) _ (stretch-told most at n (omega arith))
         (λ m is. stretches-told most (at + n) ns (omega arith))
 
     rest-told : (i : Index) → index s ≡ fine i
         → Told numbers s (stretches_from i.edition.most s 0 i.lengths >>= (λ u. fine i))
     rest-told i is =
         let fills = (index_says s i is).fills in
-        bind-told (stretches_from i.edition.most s 0 i.lengths) _
+        bind_told (stretches_from i.edition.most s 0 i.lengths) _
         (stretches-told i.edition.most 0 i.lengths (omega arith)) (λ u found. tt)
 
 -- a number that is listed is so in a longer list
@@ -137,11 +137,11 @@ listed_after j k numbers h = rw h (or-true (eqb k j))
 pub opening_told : (lent : Lent) (s : List ℕ) → Told (opening_numbers lent) s (opening lent s)
 unfolding opening roomy among
 opening_told no_table s =
-    bind-told (opening_numbers no_table) s (index s) _ (index-told (opening_numbers no_table) s refl)
+    bind_told (opening_numbers no_table) s (index s) _ (index-told (opening_numbers no_table) s refl)
     (λ i is. rest-told (opening_numbers no_table) s (λ k h. listed_after 18 k judging_numbers h) i is)
 opening_told (table r) s =
     let numbers = opening_numbers (table r) in
-    bind-told numbers s (index s) _ (index-told numbers s refl)
+    bind_told numbers s (index s) _ (index-told numbers s refl)
     (λ i is.
     guard_told numbers s (roomy (table r) (length i.lengths)) 14 _ refl
     (λ room.
@@ -150,14 +150,14 @@ opening_told (table r) s =
 pub asking_told : (s : List ℕ) (k : ℕ) → Told asking_numbers s (asking s k)
 unfolding asking among
 asking_told s k =
-    bind-told asking_numbers s (index s) _ (index-told asking_numbers s refl)
+    bind_told asking_numbers s (index s) _ (index-told asking_numbers s refl)
     (λ i is.
     guard_told asking_numbers s (ltb k (length i.lengths)) 16 _ refl
     (λ there.
     let fills = (index_says s i is).fills in
     let inside : total (take k i.lengths) + get_or i.lengths k 0 ≤ length s
     = omega (arith, total_nth i.lengths k (ltb-true k (length i.lengths) there)) in
-    bind-told asking_numbers s (stretch i.edition.most s (placed_in i.lengths k).start (placed_in i.lengths k).size) _
+    bind_told asking_numbers s (stretch i.edition.most s (placed_in i.lengths k).start (placed_in i.lengths k).size) _
     (stretch-told asking_numbers s
     (λ j h. listed_after 18 j (16 ∷ judging_numbers) (listed_after 16 j judging_numbers h)) i.edition.most _ _ inside)
     (λ m found. tt)))

@@ -50,17 +50,17 @@ stretches_sound most s at (n ∷ ns) q =
     more (a.0, part_fine at _ a.1) (stretches_sound most s (at + n) ns a.2)
 
 module _ (s : List ℕ) (bytes : Bytes s) where
-  number-stands : (at n : ℕ) → at + n ≤ length s → Stands s at (big_bytes n (big s at n))
-  number-stands at n h = subst (λ (l : List ℕ). Stands s at l) (sym (bytes_back s bytes n at h)) (taken_stands s at n h).1
+  number_stands : (at n : ℕ) → at + n ≤ length s → Stands s at (big_bytes n (big s at n))
+  number_stands at n h = subst (λ (l : List ℕ). Stands s at l) (sym (bytes_back s bytes n at h)) (taken_stands s at n h).1
 
-  entries-sound : (e : Edition) (n p at end : ℕ) (ns : List ℕ) → p + entry_size e * n ≤ length s
+  entries_sound : (e : Edition) (n p at end : ℕ) (ns : List ℕ) → p + entry_size e * n ≤ length s
       → entries_from s e.length_bytes n p at end ≡ fine ns
       → (length ns ≡ n)
       × (at + total ns ≡ end)
       × Each (λ k. k < 2 ^ (8 * e.length_bytes)) ns
       × Stands s p (index_text e at ns)
   unfolding entries_from index_text total
-  entries-sound e zero p at end ns h q =
+  entries_sound e zero p at end ns h q =
       let g = guarded (eqb at end) _ _ _ q in
       let nothing : [] ≡ ns = fine_eq g.1 in
       subst
@@ -68,21 +68,21 @@ module _ (s : List ℕ) (bytes : Bytes s) where
       (length l ≡ 0) × (at + total l ≡ end) × Each (λ k. k < 2 ^ (8 * e.length_bytes)) l × Stands s p (index_text e at l))
       nothing
       (refl, omega (arith, eqb-true at end g.0), none, stands_nil (omega arith))
-  entries-sound e (suc n) p at end ns h q =
+  entries_sound e (suc n) p at end ns h q =
       let size = big s (p + 4) e.length_bytes in
       let g = guarded_bind (eqb (big s p 4) at) _ _ _ q in
       let start : big s p 4 ≡ at = eqb-true (big s p 4) at g.0 in
       let b = bind_fine (entries_from s e.length_bytes n (p + entry_size e) (at + size) end) _ g.1 in
       let fits : p + entry_size e + entry_size e * n ≤ length s = omega (arith, mul-suc (entry_size e) n) in
-      let others = entries-sound e n (p + entry_size e) (at + size) end b.0 fits b.1 in
+      let others = entries_sound e n (p + entry_size e) (at + size) end b.0 fits b.1 in
       let many = others.0 in
       let tiles = others.1 in
       let first : Stands s p (big_bytes 4 at)
-      = subst (λ (x : ℕ). Stands s p (big_bytes 4 x)) start (number-stands p 4 (omega arith)) in
+      = subst (λ (x : ℕ). Stands s p (big_bytes 4 x)) start (number_stands p 4 (omega arith)) in
       let second : Stands s (p + length (big_bytes 4 at)) (big_bytes e.length_bytes size)
       =
       stands_to (p + length (big_bytes 4 at)) (omega (arith, big_length 4 at))
-      (number-stands (p + 4) e.length_bytes (omega arith)) in
+      (number_stands (p + 4) e.length_bytes (omega arith)) in
       let entry : Stands s p (entry_text e at size)
       = stands_join (big_bytes 4 at) (big_bytes e.length_bytes size) first second in
       let rest : Stands s (p + length (entry_text e at size)) (index_text e (at + size) b.0)
@@ -107,9 +107,9 @@ module _ (s : List ℕ) (bytes : Bytes s) where
     pub fills : t.place + entry_size t.edition * t.entries ≡ at
     pub there : Stands s at (trailer_text t.edition t.place t.entries)
 
-  trailer-sound : (at : ℕ) (t : Trailer) → at + trailer_size ≤ length s → trailer_at s at ≡ fine t → FoundTrailer at t
+  trailer_sound : (at : ℕ) (t : Trailer) → at + trailer_size ≤ length s → trailer_at s at ≡ fine t → FoundTrailer at t
   unfolding trailer_from trailer_size
-  trailer-sound at t h q =
+  trailer_sound at t h q =
       let a = bind_fine (edition_of (big s (at + 8) 2)) _ q in
       let e = a.0 in
       let b = guarded (leb (big s (at + 4) 4) most_messages) _ _ _ a.2 in
@@ -119,14 +119,14 @@ module _ (s : List ℕ) (bytes : Bytes s) where
       let n = big s (at + 4) 4 in
       let number : Stands s (at + 8) (big_bytes 2 e.number)
       =
-      subst (λ (x : ℕ). Stands s (at + 8) (big_bytes 2 x)) (sym r.1) (number-stands (at + 8) 2 (omega arith)) in
+      subst (λ (x : ℕ). Stands s (at + 8) (big_bytes 2 x)) (sym r.1) (number_stands (at + 8) 2 (omega arith)) in
       let count : Stands s (at + 4) (big_bytes 4 n ++ big_bytes 2 e.number)
       =
-      stands_join (big_bytes 4 n) (big_bytes 2 e.number) (number-stands (at + 4) 4 (omega arith))
+      stands_join (big_bytes 4 n) (big_bytes 2 e.number) (number_stands (at + 4) 4 (omega arith))
       (stands_to (at + 4 + length (big_bytes 4 n)) (omega (arith, big_length 4 n)) number) in
       let whole : Stands s at (trailer_text e place n)
       =
-      stands_join (big_bytes 4 place) (big_bytes 4 n ++ big_bytes 2 e.number) (number-stands at 4 (omega arith))
+      stands_join (big_bytes 4 place) (big_bytes 4 n ++ big_bytes 2 e.number) (number_stands at 4 (omega arith))
       (stands_to (at + length (big_bytes 4 place)) (omega (arith, big_length 4 place)) count) in
       subst (λ (x : Trailer). FoundTrailer at x) (fine_eq c.1)
       (record {
@@ -138,22 +138,22 @@ module _ (s : List ℕ) (bytes : Bytes s) where
       })
 
   -- trailer and index are the tail of some bytes
-  pub index-sound : (i : Index) → index s ≡ fine i → HasTail i.edition i.lengths s
+  pub index_sound : (i : Index) → index s ≡ fine i → HasTail i.edition i.lengths s
   unfolding index trailer
-  index-sound i q =
+  index_sound i q =
       let a = bind_fine (trailer s) _ q in
       let t = a.0 in
       let e = t.edition in
       let b = guarded (leb trailer_size (length s)) _ _ _ a.1 in
       let h : trailer_size ≤ length s = leb-true trailer_size (length s) b.0 in
       let at = length s - trailer_size in
-      let f = trailer-sound at t (omega arith) b.1 in
+      let f = trailer_sound at t (omega arith) b.1 in
       let fills = f.fills in
       let few = f.few in
       let fits = f.fits in
       let c = bind_fine (entries_from s e.length_bytes t.entries t.place 0 t.place) _ a.2 in
       let ns = c.0 in
-      let g = entries-sound e t.entries t.place 0 t.place ns (omega arith) c.1 in
+      let g = entries_sound e t.entries t.place 0 t.place ns (omega arith) c.1 in
       let many = g.0 in
       let place : t.place ≡ total ns = let tiles = g.1 in omega arith in
       let ix = index_text e 0 ns in
@@ -186,10 +186,10 @@ module _ (s : List ℕ) (bytes : Bytes s) where
           (stands_join a b left (stands_to (0 + length a) (omega arith) right)) (stands_self s)
 
   -- messages that are the stretches before such a tail are a recording
-  tail-recording : (i : Index) {u : Unit {0}} → HasTail i.edition i.lengths s
+  tail_recording : (i : Index) {u : Unit {0}} → HasTail i.edition i.lengths s
       → stretches_from i.edition.most s 0 i.lengths ≡ fine u
       → IsRecording i.edition (stretches s 0 i.lengths) s
-  tail-recording i f r =
+  tail_recording i f r =
       let ns = i.lengths in
       let e = i.edition in
       let ms = stretches s 0 ns in
@@ -215,4 +215,4 @@ module _ (s : List ℕ) (bytes : Bytes s) where
       let x = a.0 in
       let b = bind_fine (stretches_from x.edition.most s 0 x.lengths) _ a.2 in
       subst (λ (y : Index). IsRecording y.edition (stretches s 0 y.lengths) s) (fine_eq b.2)
-      (tail-recording x (index-sound x a.1) b.1)
+      (tail_recording x (index_sound x a.1) b.1)

@@ -107,8 +107,8 @@ module _ {s kept₀ kept : List ℕ} {at k : ℕ} (d : Divides s kept₀ kept at
             ∙ take-append-drop k kept),
       )
 
-  pub stops-at-end : length s ≤ at → Stops s kept₀ kept at k at_end
-  stops-at-end h = stops at_end (run_end limit (length kept₀ - k) s at h)
+  pub stops_at_end : length s ≤ at → Stops s kept₀ kept at k at_end
+  stops_at_end h = stops at_end (run_end limit (length kept₀ - k) s at h)
 
   module _ (h : at < length s) where
     pub stops-at-most : length kept ≤ k → Stops s kept₀ kept at k at_most
@@ -160,28 +160,28 @@ module _ {s kept₀ kept : List ℕ} {at k : ℕ} (d : Divides s kept₀ kept at
 
   -- what the front's judge told of the part from `at` on
   module _ (j : Judged) (said : judged j ≡ front_length limit (take (length s - at) (drop at s))) where
-    from-here : front_length limit (drop at s) ≡ judged j
-    from-here =
+    from_here : front_length limit (drop at s) ≡ judged j
+    from_here =
         sym (said ∙ ap (front_length limit) (take_all (length s - at) (drop at s) (omega (arith, length-drop at s))))
 
     -- a message: it lies in the bytes, and the division goes on after it
     pub taken-within : (n : ℕ) → j ≡ Accepted n → (at + n ≤ length s) × (n ≤ limit)
     taken-within n e =
         let within = d.within in
-        let bounds = front_bounds (drop at s) n (from-here ∙ ap judged e) in
+        let bounds = front_bounds (drop at s) n (from_here ∙ ap judged e) in
         let short = bounds.0 in
         (omega (arith, length-drop at s), bounds.1)
 
     pub taken-turn : (n : ℕ) → j ≡ Accepted n → at < length s → k < length kept → Divides s kept₀ (set kept k n) (at + n) (k + 1)
-    taken-turn n e h room = divides-turn h room n (from-here ∙ ap judged e)
+    taken-turn n e h room = divides-turn h room n (from_here ∙ ap judged e)
 
     -- or none
     pub fault-within : (r : Refusal) → j ≡ Refused r → at + r.place ≤ length s
     fault-within r e =
         let within = d.within in
-        let bound = fault_bound (drop at s) _ _ (from-here ∙ ap judged e) in
+        let bound = fault_bound (drop at s) _ _ (from_here ∙ ap judged e) in
         omega (arith, length-drop at s)
 
     pub stops-at-fault : (r : Refusal) → j ≡ Refused r → at < length s → k < length kept
         → Stops s kept₀ kept at k (at_fault r.number (at + r.place))
-    stops-at-fault r e h room = fault-stops h room r.number r.place (from-here ∙ ap judged e)
+    stops-at-fault r e h room = fault-stops h room r.number r.place (from_here ∙ ap judged e)

@@ -20,17 +20,17 @@ module _ (s : List ℕ) (a : Answer) (told : a ≡ answered (reading no_table s)
   said : (answered (reading no_table s)).said ≡ a.said
   said = ap (λ (x : Answer). x.said) (sym told)
 
-  pub front-accepted : (f : Found) → a.said ≡ Accepted f → fine f.length ≡ front_of (reading no_table s)
-  front-accepted f e =
+  pub front_accepted : (f : Found) → a.said ≡ Accepted f → fine f.length ≡ front_of (reading no_table s)
+  front_accepted f e =
       let m = said_fine (reading no_table s) f (said ∙ e) in
       sym (ap front_of m.1 ∙ ap (λ (g : Found). fine g.length) m.2)
 
   pub front_more : (r : Refusal) → a.said ≡ Refused r → r.number ≡ 13 → fine r.place ≡ front_of (reading no_table s)
   front_more r e h = rw (said_refused (reading no_table s) r (said ∙ e), eq-eqb r.number 13 h)
 
-  pub front-none : (r : Refusal) → a.said ≡ Refused r → (r.number ≡ 13 → ⊥)
+  pub front_none : (r : Refusal) → a.said ≡ Refused r → (r.number ≡ 13 → ⊥)
       → refused r.number r.place ≡ front_of (reading no_table s)
-  front-none r e h = rw (said_refused (reading no_table s) r (said ∙ e), ne_eqb r.number 13 h)
+  front_none r e h = rw (said_refused (reading no_table s) r (said ∙ e), ne_eqb r.number 13 h)
 
 -- bytes within the limit are not cut
 pub front_whole : (s : List ℕ) → length s ≤ limit → front_of (reading no_table s) ≡ front_length limit s

@@ -12,7 +12,7 @@ use Rattle.sim0mq.specs.Answer.{Answer, fine, refused}
 use Rattle.dividing.specs.Run.{total}
 use Rattle.recordings_format.specs.Edition.{trailer_size}
 use Rattle.recordings_format.specs.Judge.{entries_from}
-use Rattle.recordings_format.proofs.IndexLaws.{TrailerOf, numbers_say, entries-many}
+use Rattle.recordings_format.proofs.IndexLaws.{TrailerOf, numbers_say, entries_many}
 use Rattle.recordings_format.proofs.RefusalLaws.{entries_eighteen}
 use Rattle.recordings_index.specs.Tail.{there, wanted, trailer_in, entries_in, index_in}
 use Rattle.recordings_index.specs.Index.{row_of, trailer_as, trailed_as, summed_in, Trailing, taken, tiled}
@@ -22,9 +22,9 @@ use Rattle.recordings_index.specs.declared.Trailed.TheVariants.{Found, Wrong}
 
 module _ (n : ℕ) (tail : List ℕ) where
   -- no file, and no tail of it
-  pub tail-short : n < trailer_size → refused 18 0 ≡ summed_in (index_in n tail)
+  pub tail_short : n < trailer_size → refused 18 0 ≡ summed_in (index_in n tail)
   unfolding index_in
-  tail-short h = sym (simp (lt-leb trailer_size n h))
+  tail_short h = sym (simp (lt-leb trailer_size n h))
 
   module _ (file : trailer_size ≤ n) where
     pub tail-over : n < length tail → refused 18 0 ≡ summed_in (index_in n tail)
@@ -132,7 +132,7 @@ module _ (n : ℕ) (tail : List ℕ) where
                     → fine (there (trailer_as t)) ≡ summed_in (index_in n tail)
                 go (refused k p) q f = absurd (false≢true f)
                 go (fine ns) q f =
-                    let m = entries-many tail t.edition.wide t.entries from 0 t.place ns q in
+                    let m = entries_many tail t.edition.wide t.entries from 0 t.place ns q in
                     let place : total ns ≡ t.place = sym (zero-add (total ns)) ∙ m.1 in
                     sym
                     (ap summed_in judged

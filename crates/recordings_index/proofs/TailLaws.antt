@@ -16,61 +16,61 @@ use Rattle.dividing.specs.Run.{total}
 use Rattle.recordings_format.specs.Edition.{entry_size, most_messages, trailer_size}
 use Rattle.recordings_format.specs.Judge as J
 use Rattle.recordings_format.specs.Judge.{Trailer, trailer_from, trailer_at, trailer, entries_from, Index, index}
-use Rattle.recordings_format.proofs.IndexLaws.{trailer_says, entries-many}
+use Rattle.recordings_format.proofs.IndexLaws.{trailer_says, entries_many}
 use Rattle.recordings_index.specs.Tail.{Reached, there, wanted, enough_or, trailer_in, entries_in, index_in}
 use Rattle.recordings_index.specs.Index.{summed, summed_in}
 
 module _ (s : List ℕ) (gap : ℕ) where
   -- a number
-  pub big-past : (p n : ℕ) → big (drop gap s) p n ≡ big s (gap + p) n
+  pub big_past : (p n : ℕ) → big (drop gap s) p n ≡ big s (gap + p) n
   unfolding big
-  big-past p zero = refl
-  big-past p (suc n) =
+  big_past p zero = refl
+  big_past p (suc n) =
       let sum : gap + (p + n) ≡ gap + p + n = omega arith in
-      ap₂ (λ (a b : ℕ). a * 256 + b) (big-past p n) (get_or-drop gap s (p + n) 0 ∙ ap (byte s) sum)
+      ap₂ (λ (a b : ℕ). a * 256 + b) (big_past p n) (get_or-drop gap s (p + n) 0 ∙ ap (byte s) sum)
 
   -- the entries of an index
-  pub entries-past : (w n p at end : ℕ) → entries_from (drop gap s) w n p at end ≡ entries_from s w n (gap + p) at end
+  pub entries_past : (w n p at end : ℕ) → entries_from (drop gap s) w n p at end ≡ entries_from s w n (gap + p) at end
   unfolding entries_from
-  entries-past w zero p at end = refl
-  entries-past w (suc n) p at end =
-      let start = big-past p 4 in
+  entries_past w zero p at end = refl
+  entries_past w (suc n) p at end =
+      let start = big_past p 4 in
       let size : big (drop gap s) (p + 4) w ≡ big s (gap + p + 4) w
-      = big-past (p + 4) w ∙ ap (λ (x : ℕ). big s x w) (omega arith) in
+      = big_past (p + 4) w ∙ ap (λ (x : ℕ). big s x w) (omega arith) in
       let place : gap + (p + (4 + w)) ≡ gap + p + (4 + w) = omega arith in
       let later
       =
-      entries-past w n (p + (4 + w)) (at + big (drop gap s) (p + 4) w) end
+      entries_past w n (p + (4 + w)) (at + big (drop gap s) (p + 4) w) end
       ∙ (λ i. entries_from s w n (place i) (at + size i) end) in
       λ i. guard (eqb (start i) at) 18 0 >>= (λ u. later i >>= (λ ns. fine (size i ∷ ns)))
 
 -- bytes that are as many and end alike, from where the messages end on, have the same trailer and index
 module _ (s t : List ℕ) (gap : ℕ) (long : length s ≡ length t) (alike : drop gap s ≡ drop gap t) where
-  big-same : (p n : ℕ) → gap ≤ p → big s p n ≡ big t p n
-  big-same p n h =
+  big_same : (p n : ℕ) → gap ≤ p → big s p n ≡ big t p n
+  big_same p n h =
       let there : gap + (p - gap) ≡ p = omega arith in
       ap (λ (x : ℕ). big s x n) (sym there)
-      ∙ sym (big-past s gap (p - gap) n)
+      ∙ sym (big_past s gap (p - gap) n)
       ∙ ap (λ (l : List ℕ). big l (p - gap) n) alike
-      ∙ big-past t gap (p - gap) n
+      ∙ big_past t gap (p - gap) n
       ∙ ap (λ (x : ℕ). big t x n) there
 
-  entries-same : (w n p at end : ℕ) → gap ≤ p → entries_from s w n p at end ≡ entries_from t w n p at end
-  entries-same w n p at end h =
+  entries_same : (w n p at end : ℕ) → gap ≤ p → entries_from s w n p at end ≡ entries_from t w n p at end
+  entries_same w n p at end h =
       let there : gap + (p - gap) ≡ p = omega arith in
       ap (λ (x : ℕ). entries_from s w n x at end) (sym there)
-      ∙ sym (entries-past s gap w n (p - gap) at end)
+      ∙ sym (entries_past s gap w n (p - gap) at end)
       ∙ ap (λ (l : List ℕ). entries_from l w n (p - gap) at end) alike
-      ∙ entries-past t gap w n (p - gap) at end
+      ∙ entries_past t gap w n (p - gap) at end
       ∙ ap (λ (x : ℕ). entries_from t w n x at end) there
 
-  trailer-same : gap + trailer_size ≤ length s → trailer s ≡ trailer t
+  trailer_same : gap + trailer_size ≤ length s → trailer s ≡ trailer t
   unfolding trailer
-  trailer-same h =
+  trailer_same h =
       let at = length s - trailer_size in
-      let number = big-same (at + 8) 2 (omega arith) in
-      let place = big-same at 4 (omega arith) in
-      let entries = big-same (at + 4) 4 (omega arith) in
+      let number = big_same (at + 8) 2 (omega arith) in
+      let place = big_same at 4 (omega arith) in
+      let entries = big_same (at + 4) 4 (omega arith) in
       (λ i. guard (leb trailer_size (length s)) 18 0 >> trailer_from (number i) (place i) (entries i) at)
       ∙ ap (λ (n : ℕ). guard (leb trailer_size n) 18 0 >> trailer_at t (n - trailer_size)) long
 
@@ -84,12 +84,12 @@ index_same s t i long alike q =
     let fills = f.fills in
     let w = x.edition.length_bytes in
     let b = bind_fine (entries_from s w x.entries x.place 0 x.place) _ a.2 in
-    let many = entries-many s w x.entries x.place 0 x.place b.0 b.1 in
+    let many = entries_many s w x.entries x.place 0 x.place b.0 b.1 in
     let lengths : b.0 ≡ i.lengths = ap (λ (y : Index). y.lengths) (fine_eq b.2) in
     let place : total i.lengths ≡ x.place = ap total (sym lengths) ∙ sym (zero-add (total b.0)) ∙ many.1 in
     let gap = total i.lengths in
     let fits : gap + trailer_size ≤ length s = below x.place (entry_size x.edition * x.entries) (length s) place fills in
-    simp (sym (trailer-same s t gap long alike fits) ∙ a.1, sym (entries-same s t gap long alike w x.entries x.place 0 x.place (omega arith)) ∙ b.1)
+    simp (sym (trailer_same s t gap long alike fits) ∙ a.1, sym (entries_same s t gap long alike w x.entries x.place 0 x.place (omega arith)) ∙ b.1)
     b.2
   where
     below : {gap : ℕ} (p n l : ℕ) → gap ≡ p → p + n + trailer_size ≡ l → gap + trailer_size ≤ l
@@ -113,11 +113,11 @@ trailer_in_lem s gap h =
     let at = length (drop gap s) - trailer_size in
     let here : gap + at ≡ length s - trailer_size = omega (arith, length-drop gap s) in
     let number : big (drop gap s) (at + 8) 2 ≡ big s (length s - trailer_size + 8) 2
-    = big-past s gap (at + 8) 2 ∙ ap (λ (x : ℕ). big s x 2) (omega arith) in
+    = big_past s gap (at + 8) 2 ∙ ap (λ (x : ℕ). big s x 2) (omega arith) in
     let place : big (drop gap s) at 4 ≡ big s (length s - trailer_size) 4
-    = big-past s gap at 4 ∙ ap (λ (x : ℕ). big s x 4) here in
+    = big_past s gap at 4 ∙ ap (λ (x : ℕ). big s x 4) here in
     let entries : big (drop gap s) (at + 4) 4 ≡ big s (length s - trailer_size + 4) 4
-    = big-past s gap (at + 4) 4 ∙ ap (λ (x : ℕ). big s x 4) (omega arith) in
+    = big_past s gap (at + 4) 4 ∙ ap (λ (x : ℕ). big s x 4) (omega arith) in
     (λ i. trailer_from (number i) (place i) (entries i) (length s - trailer_size))
     ∙ sym (simp (le-leb trailer_size (length s) (omega arith)))
 
@@ -174,7 +174,7 @@ module _ (s : List ℕ) (gap : ℕ) (h : gap ≤ length s) where
 
       same : entries_from tail t.edition.length_bytes t.entries (length tail - (length s - t.place)) 0 t.place ≡ listed
       same =
-          entries-past s gap t.edition.length_bytes t.entries (length tail - (length s - t.place)) 0 t.place
+          entries_past s gap t.edition.length_bytes t.entries (length tail - (length s - t.place)) 0 t.place
           ∙ ap (λ (p : ℕ). entries_from s t.edition.length_bytes t.entries p 0 t.place) from
 
       lists : Comes s (length s - gap) (entries_in (length s) tail t)
@@ -213,9 +213,9 @@ module _ (s : List ℕ) (gap : ℕ) (h : gap ≤ length s) where
       let fits : gap + trailer_size ≤ length s = omega arith in
       comes (simp (le-leb trailer_size (length s) f, ends, e, trailer_in_lem s gap fits)) (trailed f some (trailer s) refl)
 
-  pub tail-comes : Comes s (length s - gap) (index_in (length s) tail)
+  pub tail_comes : Comes s (length s - gap) (index_in (length s) tail)
   unfolding index_in index trailer
-  tail-comes = file (leb trailer_size (length s)) refl
+  tail_comes = file (leb trailer_size (length s)) refl
     where
       file : (b : Bool) → leb trailer_size (length s) ≡ b → Comes s (length s - gap) (index_in (length s) tail)
       file false e = comes (simp e) (stopped {k = 18} {p = 0} (simp e))
@@ -227,9 +227,9 @@ module _ (s : List ℕ) (gap : ℕ) (h : gap ≤ length s) where
     pub is : trailer s ≡ fine trailed
     pub from-there : length s - trailed.place ≡ w
 
-  pub tail-wants : {w : ℕ} → trailer_size ≤ length tail → index_in (length s) tail ≡ fine (wanted w) → Wants w
+  pub tail_wants : {w : ℕ} → trailer_size ≤ length tail → index_in (length s) tail ≡ fine (wanted w) → Wants w
   unfolding index_in entries_in
-  tail-wants {w} r q =
+  tail_wants {w} r q =
       let z = long in
       let file : trailer_size ≤ length s = omega arith in
       let judged
@@ -264,13 +264,13 @@ module _ (s : List ℕ) where
   Whole (fine (wanted w)) = ⊥
   Whole (refused k p) = refused k p ≡ summed (index s)
 
-  pub whole-comes : (a : Answer (Reached J.Trailer)) → a ≡ summed_in (index_in (length s) s) → Whole a
-  whole-comes a e = subst Whole (sym e) (go (tail-comes s 0 zero-le))
+  pub whole_comes : (a : Answer (Reached J.Trailer)) → a ≡ summed_in (index_in (length s) s) → Whole a
+  whole_comes a e = subst Whole (sym e) (go (tail_comes s 0 zero-le))
     where
       go : {x : Answer (Reached Index)} → Comes s (length s - 0) x → Whole (summed_in x)
       go (whole q) = sym (ap summed q)
       go (stopped q) = sym (ap summed q)
       go (short a b c) = absurd (omega arith)
 
-  pub whole-wants : {w : ℕ} → fine (wanted w) ≡ summed_in (index_in (length s) s) → ⊥
-  whole-wants {w} e = whole-comes (fine (wanted w)) e
+  pub whole_wants : {w : ℕ} → fine (wanted w) ≡ summed_in (index_in (length s) s) → ⊥
+  whole_wants {w} e = whole_comes (fine (wanted w)) e

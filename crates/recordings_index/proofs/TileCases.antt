@@ -81,8 +81,8 @@ tiling_start {s} {w} {from} {entries} {end} r =
     }
 
 module _ {s : List ℕ} {w from entries end at p k : ℕ} (r : Trailing s w from entries) (u : Tiling s w from entries end at p k) where
-  pub tiling-end : entries ≤ k → eqb at end ≡ tiled s w from entries end
-  tiling-end h =
+  pub tiling_end : entries ≤ k → eqb at end ≡ tiled s w from entries end
+  tiling_end h =
       let none : entries - k ≡ 0 = omega arith in
       sym (u.same ∙ ap (λ (m : ℕ). taken (entries_from s w m p at end)) none ∙ entry_end s w p at end)
 

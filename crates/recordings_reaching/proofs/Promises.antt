@@ -17,9 +17,9 @@ use Rattle.recordings_format.specs.Edition.{trailer_size}
 use Rattle.recordings_format.specs.Judge.{Trailer, Index, index, stretch, Placed, placed_in, asking}
 use Rattle.recordings_format.proofs.IndexLaws.{index_says, total_nth}
 use Rattle.recordings_index.specs.Tail.{Reached, there, wanted, index_in}
-use Rattle.recordings_index.proofs.TailLaws.{Comes, whole, stopped, short, tail-comes, tail-wants}
+use Rattle.recordings_index.proofs.TailLaws.{Comes, whole, stopped, short, tail_comes, tail_wants}
 use Rattle.recordings.specs.Recordings.{size_of}
-use Rattle.recordings.proofs.StretchCases.{stretch_read, stretch-over}
+use Rattle.recordings.proofs.StretchCases.{stretch_read, stretch_over}
 use Rattle.recordings_reaching.specs.Reaching.{on_reached, placing, asking_in}
 use Rattle.recordings_reaching.proofs.ReachLaws.{not_there, wanted_same}
 use Rattle.recordings_reaching.specs.Promises.{last_of, AnswersAs, TailAnswersAsTheWhole, LongestTailIsEnough, WantedIsEnough}
@@ -48,9 +48,9 @@ module _ (s : List ℕ) (n k : ℕ) (i : Index) (q : index s ≡ fine i) where
   refused_by (fine m) j v e = absurd (not_fine e)
   refused_by (refused x y) j v e = let a : x ≡ j = cc in let b : y ≡ v = cc in ap₂ refused a b
 
-  placed-as : AnswersAs s n k (placing i k)
+  placed_as : AnswersAs s n k (placing i k)
   unfolding placing asking
-  placed-as = go (ltb k (length ns)) refl
+  placed_as = go (ltb k (length ns)) refl
     where
       size : k < length ns → ltb k (length ns) ≡ true → (b : Bool) → leb p.size i.edition.most ≡ b
           → AnswersAs s n k (guard b 8 p.start >> fine (there p))
@@ -65,7 +65,7 @@ module _ (s : List ℕ) (n k : ℕ) (i : Index) (q : index s ≡ fine i) where
           let over = leb-false p.size i.edition.most f in
           simp (q, e)
           (refused_by (stretch i.edition.most s p.start p.size) 8 p.start
-          (stretch-over i.edition.most s p.start p.size (lies h, within) over))
+          (stretch_over i.edition.most s p.start p.size (lies h, within) over))
 
       go : (b : Bool) → ltb k (length ns) ≡ b
           → AnswersAs s n k (guard b 16 0 >> (guard (leb p.size i.edition.most) 8 p.start >> fine (there p)))
@@ -74,11 +74,11 @@ module _ (s : List ℕ) (n k : ℕ) (i : Index) (q : index s ≡ fine i) where
 
 pub tail_answers_as_the_whole : TailAnswersAsTheWhole
 unfolding asking_in asking
-tail_answers_as_the_whole s n k = go (tail-comes s (length s - n) (omega arith))
+tail_answers_as_the_whole s n k = go (tail_comes s (length s - n) (omega arith))
   where
     go : {a : Answer (Reached Index)} → Comes s (length s - (length s - n)) a
         → AnswersAs s n k (a >>= (λ r. on_reached r (λ i. placing i k)))
-    go (whole {i} q) = placed-as s n k i q
+    go (whole {i} q) = placed_as s n k i q
     go (stopped q) = simp q
     go (short {w} a b c) = (omega arith, b, c)
 
@@ -116,10 +116,10 @@ wanted_is_enough s n k w v had q r =
     let again = b.0 in
     let first
     =
-    tail-wants s (length s - n) (omega arith) (omega (arith, length-drop (length s - n) s)) (index_wants s n k w q) in
+    tail_wants s (length s - n) (omega arith) (omega (arith, length-drop (length s - n) s)) (index_wants s n k w q) in
     let second
     =
-    tail-wants s (length s - w) (omega arith) (omega (arith, length-drop (length s - w) s)) (index_wants s w k v r) in
+    tail_wants s (length s - w) (omega arith) (omega (arith, length-drop (length s - w) s)) (index_wants s w k v r) in
     let same : first.trailed ≡ second.trailed = fine_eq (sym first.is ∙ second.is) in
     let place = ap (λ (t : Trailer). t.place) same in
     let one = first.from-there in

@@ -18,7 +18,7 @@ use Rattle.recordings_format.specs.Edition.{entry_size, trailer_size}
 use Rattle.recordings_format.specs.Judge as J
 use Rattle.recordings_format.specs.Judge.{entries_from, Index}
 use Rattle.recordings_format.proofs.EditionLaws.{Row}
-use Rattle.recordings_format.proofs.IndexLaws.{numbers_say, entries-many, entries-nth}
+use Rattle.recordings_format.proofs.IndexLaws.{numbers_say, entries_many, entries_nth}
 use Rattle.recordings_index.specs.Tail.{Reached, there, wanted, enough_or, trailer_in, entries_in, index_in}
 use Rattle.recordings_index.specs.Index.{row_of, trailer_as, reached_as, summed_in}
 use Rattle.recordings_index.specs.declared.Trailer.{Trailer}
@@ -71,7 +71,7 @@ index_in_says n tail i q =
     let from = length tail - (n - t.place) in
     let h = bind_fine (entries_from tail w t.entries from 0 t.place) _ g.1 in
     let ns = h.0 in
-    let m = entries-many tail w t.entries from 0 t.place ns h.1 in
+    let m = entries_many tail w t.entries from 0 t.place ns h.1 in
     let many : t.entries ≡ length ns = sym m.0 in
     let place : t.place ≡ total ns = sym m.1 ∙ zero-add (total ns) in
     let file = leb-true trailer_size n a.0 in
@@ -112,8 +112,8 @@ module _ {n : ℕ} {tail : List ℕ} {t : Trailer} (h : StatedIn n tail t) where
   many : length h.found.lengths ≡ t.entries
   many = ap (λ (x : J.Trailer). x.entries) h.says
 
-  pub in-narrow : t.edition.wide ≤ 4
-  in-narrow = subst (λ (x : E.Edition). x.length_bytes ≤ 4) edition told.row.narrow
+  pub in_narrow : t.edition.wide ≤ 4
+  in_narrow = subst (λ (x : E.Edition). x.length_bytes ≤ 4) edition told.row.narrow
 
   fills : t.place + (4 + t.edition.wide) * t.entries + trailer_size ≡ n
   fills = sym (λ i. place i + entry_size (edition i) * many i + trailer_size) ∙ told.fills
@@ -152,8 +152,8 @@ module _ {n : ℕ} {tail : List ℕ} {t : Trailer} (h : StatedIn n tail t) where
         let p = from + (4 + t.edition.wide) * k in
         let ns = h.found.lengths in
         let room = in-room in
-        let narrow = in-narrow in
-        let nth = entries-nth tail t.edition.wide t.entries from 0 t.place ns k states f in
+        let narrow = in_narrow in
+        let nth = entries_nth tail t.edition.wide t.entries from 0 t.place ns k states f in
         let first : start ≡ total (take k ns)
         = a ∙ number_there tail p 4 (omega arith) (omega arith) ∙ nth.start ∙ zero-add (total (take k ns)) in
         let long : size ≡ get_or ns k 0
@@ -204,9 +204,9 @@ module _ {n : ℕ} {tail : List ℕ} {t : Trailer} (h : StatedIn n tail t) where
 
 -- it is not right, or not reached
 module _ (n : ℕ) (tail : List ℕ) (k : ℕ) {w : D.Reached} (says : reached_as w ≡ summed_in (index_in n tail)) where
-  pub in-wrong : w ≡ Wrong → refused 18 0 ≡ asking_in n tail k
+  pub in_wrong : w ≡ Wrong → refused 18 0 ≡ asking_in n tail k
   unfolding asking_in
-  in-wrong is = go (index_in n tail) refl (sym says ∙ ap reached_as is)
+  in_wrong is = go (index_in n tail) refl (sym says ∙ ap reached_as is)
     where
       go : (a : Answer (Reached Index)) → index_in n tail ≡ a → summed_in a ≡ refused 18 0 → refused 18 0 ≡ asking_in n tail k
       go (fine (there i)) q e = absurd (not_fine (sym e))
@@ -214,9 +214,9 @@ module _ (n : ℕ) (tail : List ℕ) (k : ℕ) {w : D.Reached} (says : reached_a
       go (refused j p) q e =
           let a : 18 ≡ j = cc in let b : 0 ≡ p = cc in ap₂ (λ (x y : ℕ). refused x y) a b ∙ sym (simp q)
 
-  pub in-wanted : {v : ℕ} → w ≡ Wanted v → fine (wanted v) ≡ asking_in n tail k
+  pub in_wanted : {v : ℕ} → w ≡ Wanted v → fine (wanted v) ≡ asking_in n tail k
   unfolding asking_in
-  in-wanted {v} is = go (index_in n tail) refl (sym says ∙ ap reached_as is)
+  in_wanted {v} is = go (index_in n tail) refl (sym says ∙ ap reached_as is)
     where
       go : (a : Answer (Reached Index)) → index_in n tail ≡ a → summed_in a ≡ fine (wanted v) → fine (wanted v) ≡ asking_in n tail k
       go (fine (there i)) q e = absurd (not_there (sym (fine_eq e)))

@@ -89,8 +89,8 @@ module _ (e f : Edition) (ms : List (List ℕ)) (s : List ℕ) (wide : e.most �
       closed (at_fault 2 (total ns))
       (stops_there f.most (most_messages - length ms) s (total ns) (tail_zero e ns).0 some there (omega arith))
 
-  pub back-most : length ms ≡ most_messages → rescued f s ≡ record { lengths = ns; stop = at_most }
-  back-most h =
+  pub back_most : length ms ≡ most_messages → rescued f s ≡ record { lengths = ns; stop = at_most }
+  back_most h =
       let none : most_messages - length ms ≡ 0 = omega arith in
       closed at_most
       (ap (λ (k : ℕ). run_from f.most k s (total ns)) none

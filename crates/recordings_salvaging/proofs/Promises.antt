@@ -22,7 +22,7 @@ use Rattle.recordings_format.proofs.TextLaws.{joined_long}
 use Rattle.recordings_format.proofs.SoundLaws.{stretches_long}
 use Rattle.recordings_salvaging.specs.Salvage.{rescued, salvage_text, Report, report, salvage, output_after}
 use Rattle.recordings_salvaging.specs.Promises.{SalvagedIsARecording, SalvageKeepsTheLongest, RecordingComesBack, IntactComesBack, IsShort, RefusedForRoomAlone}
-use Rattle.recordings_salvaging.proofs.BackLaws.{back_long, back_index, back-most}
+use Rattle.recordings_salvaging.proofs.BackLaws.{back_long, back_index, back_most}
 
 pub salvaged_is_a_recording : SalvagedIsARecording
 unfolding salvage_text report
@@ -75,7 +75,7 @@ unfolding report
 recording_comes_back e f ms s listed wide i =
     let some = (listed_row f listed).some in
     let index = back_index e f ms s wide some i in
-    let most = back-most e f ms s wide some i in
+    let most = back_most e f ms s wide some i in
     let b = back e f ms s i (back_long e f ms s wide some i) (either some (ltb (length ms) most_messages) refl) in
     record {
       text = b.0;
@@ -91,7 +91,7 @@ recording_comes_back e f ms s listed wide i =
     either some false h =
         let few = i.few in
         let over = ltb-false (length ms) most_messages h in
-        ap (λ (r : Run). r.lengths) (back-most e f ms s wide some i (omega arith))
+        ap (λ (r : Run). r.lengths) (back_most e f ms s wide some i (omega arith))
 
 pub intact_comes_back : IntactComesBack
 intact_comes_back e ms s i = (recording_comes_back e e ms s i.listed (omega arith) i).text ∙ i.whole

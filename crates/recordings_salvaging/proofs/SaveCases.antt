@@ -18,7 +18,7 @@ use Rattle.sim0mq.specs.declared.Judged.{Judged}
 use Rattle.sim0mq.specs.declared.Judged.TheVariants.{Accepted as Judged-as-Accepted, Refused as Judged-as-Refused}
 use Rattle.sim0mq.specs.declared.Refusal.{Refusal}
 use Rattle.sim0mq.proofs.Answers.{not_fine, fine_eq}
-use Rattle.sim0mq.proofs.PlaceLaws.{placed-length}
+use Rattle.sim0mq.proofs.PlaceLaws.{placed_length}
 use Rattle.sim0mq_buffers.specs.Placing.{put_in}
 use Rattle.sim0mq_buffers.proofs.PlaceLaws.{put_fits}
 use Rattle.writing_opening.specs.Opening.{buffer_after}
@@ -41,7 +41,7 @@ before_tail : (out one front tail : List ℕ) (end : ℕ) → length front ≡ e
     → end + length tail ≤ length out → put_in one 0 front ≡ stored out (front ++ tail)
 unfolding placed stored
 before_tail out one front tail end long is fits =
-    let sized : length one ≡ length out = ap length is ∙ placed-length out end tail fits in
+    let sized : length one ≡ length out = ap length is ∙ placed_length out end tail fits in
     let rest = tail ++ drop (end + length tail) out in
     let start : length (take end out) ≡ end = length-take-le end out (omega arith) in
     let after : drop (0 + length front) one ≡ rest
@@ -81,23 +81,23 @@ module _ {s : List ℕ} {d : Divided} {lengths : List ℕ} (v : Saveable s d len
   ended : d.end ≡ total ns
   ended = ap (λ (x : Divided). x.end) v.says
 
-  pub save-within : d.end ≤ length s
-  save-within = let e = ended in omega (arith, (run_is newest.most most_messages s 0 (omega arith)).within)
+  pub save_within : d.end ≤ length s
+  save_within = let e = ended in omega (arith, (run_is newest.most most_messages s 0 (omega arith)).within)
 
-  pub save-there : d.count ≤ length lengths
-  save-there = let e = counted in omega (arith, length-take d.count lengths, ap length v.kept)
+  pub save_there : d.count ≤ length lengths
+  save_there = let e = counted in omega (arith, length-take d.count lengths, ap length v.kept)
 
-  text-is : salvage_text newest s ≡ take d.end s ++ tail_text newest ns
+  text_is : salvage_text newest s ≡ take d.end s ++ tail_text newest ns
   unfolding salvage_text
-  text-is = ap (λ (n : ℕ). take n s ++ tail_text newest ns) (sym ended)
+  text_is = ap (λ (n : ℕ). take n s ++ tail_text newest ns) (sym ended)
 
-  text-long : length (salvage_text newest s) ≡ d.end + length (tail_text newest ns)
-  text-long =
+  text_long : length (salvage_text newest s) ≡ d.end + length (tail_text newest ns)
+  text_long =
       omega (
         arith,
-        ap length text-is,
+        ap length text_is,
         length-append (take d.end s) (tail_text newest ns),
-        length-take-le d.end s save-within,
+        length-take-le d.end s save_within,
       )
 
   -- the tail is refused for room alone, exactly as the whole is
@@ -119,13 +119,13 @@ module _ {s : List ℕ} {d : Divided} {lengths : List ℕ} (v : Saveable s d len
         → (tailing newest (take d.count lengths) d.end room ≡ fine (tail_text newest ns))
         × (salvage newest room s ≡ fine (report newest s))
     unfolding room_for salvage
-    granted h = (tail-is ∙ simp h, simp (text-long, h))
+    granted h = (tail-is ∙ simp h, simp (text_long, h))
 
     short : roomy ≡ false
         → (tailing newest (take d.count lengths) d.end room ≡ refused 14 0)
         × (salvage newest room s ≡ refused 14 0)
     unfolding room_for salvage
-    short h = (tail-is ∙ simp h, simp (text-long, h))
+    short h = (tail-is ∙ simp h, simp (text_long, h))
 
   -- what putting the tail answered, and the buffer then
   module _ (out : List ℕ) {one : List ℕ} {j : Judged}
@@ -171,14 +171,14 @@ module _ {s : List ℕ} {d : Divided} {lengths : List ℕ} (v : Saveable s d len
             let g = granted (length out) h in
             let fits = leb-true (d.end + length (tail_text newest ns)) (length out) h in
             let tail : one ≡ placed out d.end (tail_text newest ns) = left ∙ ap (buffer_after out d.end) g.0 in
-            let long : length (take d.end s) ≡ d.end = length-take-le d.end s save-within in
+            let long : length (take d.end s) ≡ d.end = length-take-le d.end s save_within in
             let sized : n ≡ length (salvage_text newest s)
-            = fine_eq (sym (ap judged e) ∙ said ∙ ap (length_after d.end) g.0) ∙ sym text-long in
+            = fine_eq (sym (ap judged e) ∙ said ∙ ap (length_after d.end) g.0) ∙ sym text_long in
             let whole : two ≡ stored out (salvage_text newest s)
             =
             put
             ∙ before_tail out one (take d.end s) (tail_text newest ns) d.end long tail fits
-            ∙ ap (stored out) (sym text-is) in (
+            ∙ ap (stored out) (sym text_is) in (
               (λ i.
                   Saved (record { length = sized i; kept = counted i; dropped = length s - ended i; stop = (v.says i).stop }))
                   ∙ sym (ap salvaged_as g.1),

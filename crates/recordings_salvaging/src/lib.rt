@@ -1,7 +1,7 @@
 // Salvage after a cut upload: the messages at the front of a file, with a new index and trailer after them.
 ghost use Rattle.std.specs.Prelude.{◌≡◌, length};
 ghost use Rattle.recordings_format.specs.Edition.{newest};
-ghost use Rattle.recordings_salvaging.specs.Salvage.{salvage as salvageOf, output_after};
+ghost use Rattle.recordings_salvaging.specs.Salvage.{salvage as salvage_of, output_after};
 ghost use Rattle.recordings_salvaging.specs.Saving.{salvaged_as, Saveable};
 
 use recordings_format::MOST;
@@ -31,10 +31,10 @@ pub enum Salvaged {
 // where there is room for it after them, and then the messages.
 fn save(file: &[u8], d: Divided, lengths: &[u32], out: &mut [u8]) -> Salvaged
     requires { Saveable file.now d lengths.now }
-    ensures answer { result ≡ salvaged_as (salvageOf newest (length out.old) file.now) }
+    ensures answer { result ≡ salvaged_as (salvage_of newest (length out.old) file.now) }
     ensures written { out.new
         ≡ output_after newest file.now out.old
-        (salvageOf newest (length out.old) file.now) }
+        (salvage_of newest (length out.old) file.now) }
 {
     let n = d.count;
     let end = d.end;
@@ -57,10 +57,10 @@ fn save(file: &[u8], d: Divided, lengths: &[u32], out: &mut [u8]) -> Salvaged
 // its length, how many were kept, how many bytes dropped, and why it stopped. Or 14 at 0, where `out` is too short for
 // the recording; refused, `out` is as it was.
 pub fn salvage(file: &[u8], out: &mut [u8]) -> Salvaged
-    ensures answer { result ≡ salvaged_as (salvageOf newest (length out.old) file.now) }
+    ensures answer { result ≡ salvaged_as (salvage_of newest (length out.old) file.now) }
     ensures written { out.new
         ≡ output_after newest file.now out.old
-        (salvageOf newest (length out.old) file.now) }
+        (salvage_of newest (length out.old) file.now) }
 {
     let mut lengths = [0u32; MOST];
     let d = divide(file, &mut lengths);

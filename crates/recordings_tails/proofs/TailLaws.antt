@@ -14,7 +14,7 @@ use Rattle.sim0mq.specs.Answer.{Answer, fine, refused}
 use Rattle.sim0mq.specs.Table.{placed}
 use Rattle.sim0mq.specs.Message.{limit}
 use Rattle.sim0mq.proofs.Answers.{fine_eq, guarded, and_true}
-use Rattle.sim0mq.proofs.PlaceLaws.{placed-nothing, placed-length, placed_on}
+use Rattle.sim0mq.proofs.PlaceLaws.{placed_nothing, placed_length, placed_on}
 use Rattle.sim0mq_buffers.specs.Placing.{put_in}
 use Rattle.sim0mq_buffers.proofs.PlaceLaws.{put_fits}
 use Rattle.sim0mq_numbers.specs.Bytes.{big_bytes}
@@ -35,7 +35,7 @@ use Rattle.recordings_tails.specs.Tails.{room_for, short, come, tailing, length_
 text_put : (out one two text : List ℕ) (p q m y : ℕ) → q ≡ p + length text → q + m ≤ length out → one ≡ placed out p text
     → two ≡ put_in one q (big_bytes m y) → two ≡ placed out p (text ++ big_bytes m y)
 text_put out one two text p q m y e h a b =
-    let long : length one ≡ length out = ap length a ∙ placed-length out p text (omega arith) in
+    let long : length one ≡ length out = ap length a ∙ placed_length out p text (omega arith) in
     b
     ∙ put_fits one q (big_bytes m y) (omega (arith, big_length m y))
     ∙ ap (λ (l : List ℕ). placed l q (big_bytes m y)) a
@@ -109,15 +109,15 @@ module _ {ns : List ℕ} {at left k : ℕ} (c : Counts ns at left k) where
       let long : newest.most < get_or ns k 0 = omega (arith, newest_most) in
       sym (simp (short_nth newest ns k h long))
 
-  pub counts-over : k < length ns → left < get_or ns k 0 → false ≡ come newest ns at
-  counts-over h over =
+  pub counts_over : k < length ns → left < get_or ns k 0 → false ≡ come newest ns at
+  counts_over h over =
       let sum = c.sum in
       let other : eqb (total ns) at ≡ false = ne_eqb (total ns) at (λ e. omega (arith, total_nth ns k h)) in
       sym (rw other (and_false (short newest ns)))
 
-  pub counts-turn : (size : ℕ) → k < length ns → size ≡ get_or ns k 0 → size ≤ limit → size ≤ left
+  pub counts_turn : (size : ℕ) → k < length ns → size ≡ get_or ns k 0 → size ≤ limit → size ≤ left
       → Counts ns at (left - size) (k + 1)
-  counts-turn size h is fits there =
+  counts_turn size h is fits there =
       let sum = c.sum in
       let next : take (suc k) ns ≡ take (k + 1) ns = ap (λ (i : ℕ). take i ns) (sym (add-one k)) in
       let brief = short_step newest ns k h (omega (arith, newest_most)) c.brief in
@@ -151,16 +151,16 @@ pub record Puts (ns : List ℕ) (at : ℕ) (out₀ out : List ℕ) (p start k : 
 pub puts_start : (ns : List ℕ) (at : ℕ) (out : List ℕ) → Puts ns at out out at 0 0
 unfolding index_text total
 puts_start ns at out =
-    record { few = omega arith; place = omega arith; begin = refl; long = refl; here = placed-nothing out at }
+    record { few = omega arith; place = omega arith; begin = refl; long = refl; here = placed_nothing out at }
 
 module _ {ns : List ℕ} {at : ℕ} {out₀ out : List ℕ} {p start k : ℕ} (i : Indexable ns at (length out₀))
     (u : Puts ns at out₀ out p start k) where
-  pub puts-within : k < length ns → start + get_or ns k 0 ≤ at
-  puts-within h = let begin = u.begin in let ends = i.ends in omega (arith, total_nth ns k h)
+  pub puts_within : k < length ns → start + get_or ns k 0 ≤ at
+  puts_within h = let begin = u.begin in let ends = i.ends in omega (arith, total_nth ns k h)
 
-  pub puts-turn : (next : List ℕ) (size : ℕ) → k < length ns → size ≡ get_or ns k 0 → next ≡ placed out p (entry_text newest start size)
+  pub puts_turn : (next : List ℕ) (size : ℕ) → k < length ns → size ≡ get_or ns k 0 → next ≡ placed out p (entry_text newest start size)
       → Puts ns at out₀ next (p + entry_size newest) (start + size) (k + 1)
-  puts-turn next size h is e =
+  puts_turn next size h is e =
       let place = u.place in
       let begin = u.begin in
       let fits = i.fits in
@@ -181,7 +181,7 @@ module _ {ns : List ℕ} {at : ℕ} {out₀ out : List ℕ} {p start k : ℕ} (i
         few = omega arith;
         place = omega arith;
         begin = omega (arith, ap total after, total_more ns k h);
-        long = ap length e ∙ placed-length out p entry (omega (arith, entry_long newest start size)) ∙ long;
+        long = ap length e ∙ placed_length out p entry (omega (arith, entry_long newest start size)) ∙ long;
         here =
             e
             ∙ ap (λ (l : List ℕ). placed l p entry) u.here
@@ -189,8 +189,8 @@ module _ {ns : List ℕ} {at : ℕ} {out₀ out : List ℕ} {p start k : ℕ} (i
             ∙ ap (placed out₀ at) text;
       }
 
-  pub puts-end : length ns ≤ k → out ≡ placed out₀ at (index_text newest 0 ns)
-  puts-end h = u.here ∙ ap (λ (l : List ℕ). placed out₀ at (index_text newest 0 l)) (take_all k ns h)
+  pub puts_end : length ns ≤ k → out ≡ placed out₀ at (index_text newest 0 ns)
+  puts_end h = u.here ∙ ap (λ (l : List ℕ). placed out₀ at (index_text newest 0 l)) (take_all k ns h)
 
 -- the index, and the trailer where it ends
 tail_put : (out one two ns : List ℕ) (at p : ℕ) → Indexable ns at (length out) → one ≡ placed out at (index_text newest 0 ns)
@@ -206,9 +206,9 @@ tail_put out one two ns at p i a e b fits =
 
 -- whether a text has room
 module _ (written room : ℕ) (text : List ℕ) where
-  pub room-over : room < written + length text → room_for written room text ≡ refused 14 0
+  pub room_over : room < written + length text → room_for written room text ≡ refused 14 0
   unfolding room_for
-  room-over h = simp (lt-leb (written + length text) room h)
+  room_over h = simp (lt-leb (written + length text) room h)
 
   pub room_fits : written + length text ≤ room → room_for written room text ≡ fine text
   unfolding room_for
@@ -233,9 +233,9 @@ taken_come e ms ns at each lengths ends =
 
 -- how a tail is judged
 module _ (e : Edition) (ns : List ℕ) (at room : ℕ) where
-  pub tailing-many : most_messages < length ns → tailing e ns at room ≡ refused 15 0
+  pub tailing_many : most_messages < length ns → tailing e ns at room ≡ refused 15 0
   unfolding tailing
-  tailing-many h = simp (lt-leb (length ns) most_messages h)
+  tailing_many h = simp (lt-leb (length ns) most_messages h)
 
   module _ (few : length ns ≤ most_messages) where
     pub tailing-elsewhere : come e ns at ≡ false → tailing e ns at room ≡ refused 15 0
@@ -248,7 +248,7 @@ module _ (e : Edition) (ns : List ℕ) (at room : ℕ) where
       tailing-room = simp (le-leb (length ns) most_messages few, ends)
 
       pub tailing-over : room < at + (entry_size e * length ns + trailer_size) → tailing e ns at room ≡ refused 14 0
-      tailing-over h = tailing-room ∙ room-over at room (tail_text e ns) (omega (arith, tail_long e ns))
+      tailing-over h = tailing-room ∙ room_over at room (tail_text e ns) (omega (arith, tail_long e ns))
 
       tailing-fits : at + (entry_size e * length ns + trailer_size) ≤ room → tailing e ns at room ≡ fine (tail_text e ns)
       tailing-fits h = tailing-room ∙ room_fits at room (tail_text e ns) (omega (arith, tail_long e ns))

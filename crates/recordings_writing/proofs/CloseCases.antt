@@ -55,9 +55,9 @@ is_fault (Run.at_fault k p) r e = refl
 
 -- closing: d is what dividing the bytes written answered
 module _ (w : Recorder) (out : List ℕ) where
-  pub closing-state : usable w (length out) ≡ false → closing newest w out ≡ refused 15 0
+  pub closing_state : usable w (length out) ≡ false → closing newest w out ≡ refused 15 0
   unfolding closing
-  closing-state e = simp e
+  closing_state e = simp e
 
   module _ (good : usable w (length out) ≡ true) (many : ℕ) (most : many ≡ most_messages) (d : Divided)
       (says : d ≡ divided_of (run_from limit many (take w.written out) 0)) where
@@ -126,9 +126,9 @@ module _ (w : Recorder) (out : List ℕ) where
 -- finishing: j is what putting the tail of messages of these lengths answered
 module _ (w : Recorder) (ns out : List ℕ) (j : Judged)
     (told : judged j ≡ length_after w.written (tailing newest ns w.written (length out))) where
-  pub finish-refused : (r : Refusal) → j ≡ Judged-as-Refused r
+  pub finish_refused : (r : Refusal) → j ≡ Judged-as-Refused r
       → after_adding w (refused r.number r.place) ≡ after_closing w (tailing newest ns w.written (length out))
-  finish-refused r e = go (tailing newest ns w.written (length out)) (sym (ap judged e) ∙ told)
+  finish_refused r e = go (tailing newest ns w.written (length out)) (sym (ap judged e) ∙ told)
     where
       go : (a : Answer (List ℕ)) → refused r.number r.place ≡ length_after w.written a
           → after_adding w (refused r.number r.place) ≡ after_closing w a
@@ -139,9 +139,9 @@ module _ (w : Recorder) (ns out : List ℕ) (j : Judged)
   abbrev pub closed : ℕ → Recorded
   closed k = record { said = Judged-as-Accepted k; recorder = record { written = k; messages = w.messages; closed = true } }
 
-  pub finish-closed : (n : ℕ) → j ≡ Judged-as-Accepted n
+  pub finish_closed : (n : ℕ) → j ≡ Judged-as-Accepted n
       → closed n ≡ after_closing w (tailing newest ns w.written (length out))
-  finish-closed n e = go (tailing newest ns w.written (length out)) (sym (ap judged e) ∙ told)
+  finish_closed n e = go (tailing newest ns w.written (length out)) (sym (ap judged e) ∙ told)
     where
       go : (a : Answer (List ℕ)) → fine n ≡ length_after w.written a → closed n ≡ after_closing w a
       go (fine text) q = ap closed (fine_eq q)

@@ -42,19 +42,19 @@ told_added w out last r a b e said left =
 
 -- the state
 module _ (w : Recorder) (room : ℕ) where
-  pub usable-closed : w.closed ≡ true → false ≡ usable w room
+  pub usable_closed : w.closed ≡ true → false ≡ usable w room
   unfolding usable
-  usable-closed e = sym (simp e)
+  usable_closed e = sym (simp e)
 
-  pub usable-open : w.closed ≡ false → leb w.written room ≡ usable w room
+  pub usable_open : w.closed ≡ false → leb w.written room ≡ usable w room
   unfolding usable
-  usable-open e = sym (simp e)
+  usable_open e = sym (simp e)
 
 -- adding: a is what judging the message answered
 module _ (w : Recorder) (room : ℕ) (m : List ℕ) where
-  pub adding-state : usable w room ≡ false → adding newest w room m ≡ refused 15 0
+  pub adding_state : usable w room ≡ false → adding newest w room m ≡ refused 15 0
   unfolding adding
-  adding-state e = simp e
+  adding_state e = simp e
 
   module _ (good : usable w room ≡ true) where
     pub adding-many : most_messages ≤ w.messages → adding newest w room m ≡ refused 15 0
@@ -73,9 +73,9 @@ module _ (w : Recorder) (room : ℕ) (m : List ℕ) where
       adding-fault r e =
           simp (good, lt-ltb w.messages most_messages few, said_refused (message newest.most no_table m) r (said ∙ e))
 
-      pub adding-text : (f : Found) → a.said ≡ Accepted f → adding newest w room m ≡ room_for w.written room m
+      pub adding_text : (f : Found) → a.said ≡ Accepted f → adding newest w room m ≡ room_for w.written room m
       unfolding adding
-      adding-text f e =
+      adding_text f e =
           let taken = said_fine (message newest.most no_table m) f (said ∙ e) in
           simp (good, lt-ltb w.messages most_messages few, taken.1)
 

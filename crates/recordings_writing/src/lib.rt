@@ -4,7 +4,7 @@ ghost use Rattle.sim0mq.specs.Answer.{refused as refusal};
 ghost use Rattle.writing_opening.specs.Opening.{buffer_after};
 ghost use Rattle.recordings_format.specs.Edition.{newest, most_messages};
 ghost use Rattle.recordings_tails.specs.Tails.{room_for, tailing};
-ghost use Rattle.recordings_writing.specs.Recorder.{empty, usable as usableIn, adding, closing, after_adding, after_closing};
+ghost use Rattle.recordings_writing.specs.Recorder.{empty, usable as usable_in, adding, closing, after_adding, after_closing};
 
 use reading::{Reading, judge};
 use recordings_format::MOST;
@@ -40,7 +40,7 @@ fn refused(number: u32, place: usize, recorder: Recorder) -> Recorded
 
 // Whether this state is open, and within a buffer of `room` bytes.
 fn usable(w: Recorder, room: usize) -> bool
-    ensures { result ≡ usableIn w room }
+    ensures { result ≡ usable_in w room }
 {
     if w.closed {
         return false;
@@ -51,7 +51,7 @@ fn usable(w: Recorder, room: usize) -> bool
 // Puts a message's bytes after what was written, by a state that takes one more: the bytes written then; or 14 where
 // there is no room.
 fn append(w: Recorder, text: &[u8], out: &mut [u8]) -> Recorded
-    requires { (usableIn w (length out.old) ≡ true) × (w.messages < most_messages) }
+    requires { (usable_in w (length out.old) ≡ true) × (w.messages < most_messages) }
     ensures answer { result ≡ after_adding w (room_for w.written (length out.old) text.now) }
     ensures written { out.new
         ≡ buffer_after out.old w.written

@@ -77,13 +77,13 @@ shown_back (f ∷ fs) = ap (◌∷◌ f) (shown_back fs)
 
 -- taking a message of which this is reading's answer
 module _ (b : List Sender) (s : List ℕ) (a : Answer) (e : a ≡ answered (reading no_table s)) where
-  pub take-stops : (r : Refusal) → a.said ≡ Refused r → refused r.number r.place ≡ taking b s
-  take-stops r q =
+  pub take_stops : (r : Refusal) → a.said ≡ Refused r → refused r.number r.place ≡ taking b s
+  take_stops r q =
       sym (reading_comes_first b s r.number r.place
       (said_refused (reading no_table s) r (sym (ap (λ (y : Answer). y.said) e) ∙ q)))
 
-  pub take-goes : (f : Found) → a.said ≡ Accepted f → taking_framed b s (map shown a.frames) ≡ taking b s
-  take-goes f q =
+  pub take_goes : (f : Found) → a.said ≡ Accepted f → taking_framed b s (map shown a.frames) ≡ taking b s
+  take_goes f q =
       let m = said_fine (reading no_table s) f (sym (ap (λ (y : Answer). y.said) e) ∙ q) in
       let found : a.frames ≡ map framed m.0.frames = ap (λ (y : Answer). y.frames) (e ∙ ap answered m.1) in
       ap (taking_framed b s) (ap (map shown) found ∙ shown_back m.0.frames) ∙ frames_are_enough b s m.0 m.1

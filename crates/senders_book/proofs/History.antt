@@ -55,7 +55,7 @@ use Rattle.senders_book.specs.History.{
   keeps,
   NoMessageTwice,
 }
-use Rattle.senders_book.proofs.IdLaws.{same_both, sender_true, sender_self, sender_sym, holds-none, holds_same, holds_as, holds_own}
+use Rattle.senders_book.proofs.IdLaws.{same_both, sender_true, sender_self, sender_sym, holds_none, holds_same, holds_as, holds_own}
 use Rattle.senders_book.proofs.PlaceLaws.{
   place_holds,
   free_is_the_first,
@@ -64,7 +64,7 @@ use Rattle.senders_book.proofs.PlaceLaws.{
   is_not_held,
   none_held,
   set_same,
-  set-entry,
+  set_entry,
 }
 use Rattle.senders_book.proofs.StampLaws.{accepted_is_stamped}
 use Rattle.senders_book.proofs.Promises.{
@@ -125,12 +125,12 @@ module _ (b : List Sender) (p : ℕ) (e : Sender) (h : p < length b) where
       → holds (cond t e (entry_in b j)) id ≡ true
   seen j id t q x =
       ap (λ (z : Bool). holds (cond z e (entry_in b j)) id) (sym q)
-      ∙ (ap (λ (z : Sender). holds z id) (sym (set-entry b p e h j)) ∙ x)
+      ∙ (ap (λ (z : Sender). holds z id) (sym (set_entry b p e h j)) ∙ x)
 
   -- it holds no sender that another place holds
-  set-once : Once b → ((j : ℕ) (id : Id) → (j ≡ p → ⊥) → holds (entry_in b j) id ≡ true → holds e id ≡ true → ⊥)
+  set_once : Once b → ((j : ℕ) (id : Id) → (j ≡ p → ⊥) → holds (entry_in b j) id ≡ true → holds e id ≡ true → ⊥)
       → Once (set b p e)
-  set-once once apart id i j x y = go (eqb i p) refl (eqb j p) refl
+  set_once once apart id i j x y = go (eqb i p) refl (eqb j p) refl
     where
       go : (t : Bool) → eqb i p ≡ t → (u : Bool) → eqb j p ≡ u → i ≡ j
       go true q true r = eqb-true i p q ∙ sym (eqb-true j p r)
@@ -154,7 +154,7 @@ module _ (b : List Sender) (p : ℕ) (e : Sender) (h : p < length b) where
           absurd (old (subst (λ (j : ℕ). holds (entry_in b j) id ≡ true) (eqb-true _ p q) tells.0.there))
       go false q =
           let same : entry_in (set b p e) tells.0.at ≡ entry_in b tells.0.at
-          = set-entry b p e h tells.0.at ∙ ap (λ (t : Bool). cond t e (entry_in b tells.0.at)) q in
+          = set_entry b p e h tells.0.at ∙ ap (λ (t : Bool). cond t e (entry_in b tells.0.at)) q in
           record {
             at = tells.0.at;
             there = ap (λ (x : Sender). holds x id) same ∙ tells.0.there;
@@ -169,8 +169,8 @@ module _ (b : List Sender) (t : Stamp) (e : Entry) (once : Once b) (w : Takes b 
   abbrev entry : Sender
   entry = holding e.stamp
 
-  entry-own : holds entry own ≡ true
-  entry-own = ap (λ (x : Stamp). holds (holding x) own) w.0 ∙ holds_own t w.1
+  entry_own : holds entry own ≡ true
+  entry_own = ap (λ (x : Stamp). holds (holding x) own) w.0 ∙ holds_own t w.1
 
   -- the place had the sender itself, or was free
   before : (holds (entry_in b e.place) own ≡ true) ⊎ ((entry_in b e.place).held ≡ false)
@@ -187,9 +187,9 @@ module _ (b : List Sender) (t : Stamp) (e : Entry) (once : Once b) (w : Takes b 
       (subst (λ (i : ℕ). holds (entry_in b i) own ≡ true) (sym y.2) (place_holds b own (ltb-true _ _ y.0)))))
       (λ y. not_both (sym (is_held_lem b own j x) ∙ y.0)) w.2
 
-  take-once : Once (set b e.place entry)
-  take-once =
-      set-once b e.place entry (settled b t e w).within once
+  take_once : Once (set b e.place entry)
+  take_once =
+      set_once b e.place entry (settled b t e w).within once
       (λ j id d x y. elsewhere j d (ap (λ (z : Stamp). holds (entry_in b j) (id_of z.code z.id)) (sym w.0) ∙ holds_as (entry_in b j) entry id x y))
 
   -- the sender's number is the new one, which is greater than those before
@@ -204,7 +204,7 @@ module _ (b : List Sender) (t : Stamp) (e : Entry) (once : Once b) (w : Takes b 
       here =
           record {
             at = e.place;
-            there = ap (λ (x : Sender). holds x own) same ∙ entry-own;
+            there = ap (λ (x : Sender). holds x own) same ∙ entry_own;
             number = ap (λ (x : Sender). x.number) same ∙ ap (λ (x : Stamp). x.number) w.0;
           }
 
@@ -224,14 +224,14 @@ module _ (b : List Sender) (t : Stamp) (e : Entry) (once : Once b) (w : Takes b 
       older (n ∷ ns) tells = tells.1
 
   -- and all other senders are told of as before
-  take-other : (c : ℕ) (l : List ℕ) (ns : List ℤ) → same_sender c l t.code t.id ≡ false → Tells b (id_of c l) ns
+  take_other : (c : ℕ) (l : List ℕ) (ns : List ℤ) → same_sender c l t.code t.id ≡ false → Tells b (id_of c l) ns
       → Tells (set b e.place entry) (id_of c l) ns
-  take-other c l ns d =
+  take_other c l ns d =
       set_tells b e.place entry (settled b t e w).within (id_of c l) ns
       (λ x.
       ⊎_elim (λ y. not_both (sym (held_one (entry_in b e.place) c t.code l t.id x y) ∙ d))
-      (λ y. not_both (sym (holds-none (entry_in b e.place) (id_of c l) y ∙ x))) before)
-      (λ x. not_both (sym (held_one entry c t.code l t.id x entry-own) ∙ d))
+      (λ y. not_both (sym (holds_none (entry_in b e.place) (id_of c l) y ∙ x))) before)
+      (λ x. not_both (sym (held_one entry c t.code l t.id x entry_own) ∙ d))
 
 -- what came of it
 told_on : (c d : ℕ) (l k : List ℕ) (n : ℤ) (es : List Event) → same_sender c l d k ≡ true
@@ -279,7 +279,7 @@ take_known p s k (fine x) e =
     let t = x.stamp in
     let w = (taken_by p.book s x e).0 in
     record {
-      once = take-once p.book t x k.once w;
+      once = take_once p.book t x k.once w;
       long = length-set p.book x.place (holding t) ∙ k.long;
       tells = λ c l. go c l (same_sender c l t.code t.id) refl;
     }
@@ -295,7 +295,7 @@ take_known p s k (fine x) e =
         (take_own p.book x.stamp x k.once w (numbers_of c l p.events) own))
     go c l false h =
         subst (Tells (book_after p.book (fine x)) (id_of c l)) (sym (told_off c x.stamp.code l x.stamp.id x.stamp.number p.events h))
-        (take-other p.book x.stamp x k.once (taken_by p.book s x e).0 c l (numbers_of c l p.events) h (k.tells c l))
+        (take_other p.book x.stamp x k.once (taken_by p.book s x e).0 c l (numbers_of c l p.events) h (k.tells c l))
 
 -- ---- a sender is closed
 module _ (p : Point) (d : ℕ) (k : List ℕ) (known : Known p) where
@@ -309,44 +309,44 @@ module _ (p : Point) (d : ℕ) (k : List ℕ) (known : Known p) where
   after x = Known (record { book = x; events = shut d k ∷ p.events })
 
   -- it was held, and its place is freed
-  freed-tells : place < length b → (c : ℕ) (l : List ℕ) (t : Bool) → same_sender c l d k ≡ t
+  freed_tells : place < length b → (c : ℕ) (l : List ℕ) (t : Bool) → same_sender c l d k ≡ t
       → Tells (set b place free) (id_of c l) (numbers_of c l (shut d k ∷ p.events))
   unfolding Tells
-  freed-tells h c l true q =
+  freed_tells h c l true q =
       subst (Tells (set b place free) (id_of c l)) (sym (shut_on c d l k p.events q))
       (by_name (set b place free) c d l k [] q (freed b (id_of d k) known.once h))
-  freed-tells h c l false q =
+  freed_tells h c l false q =
       subst (Tells (set b place free) (id_of c l)) (sym (shut_off c d l k p.events q))
       (set_tells b place free h (id_of c l) (numbers_of c l p.events)
       (λ x. not_both (sym (held_one (entry_in b place) c d l k x (place_holds b (id_of d k) h)) ∙ q))
       (free_not_held (id_of c l)) (known.tells c l))
 
   -- it was not held, and nothing changes
-  left-tells : is_held b (id_of d k) ≡ false → (c : ℕ) (l : List ℕ) (t : Bool) → same_sender c l d k ≡ t
+  left_tells : is_held b (id_of d k) ≡ false → (c : ℕ) (l : List ℕ) (t : Bool) → same_sender c l d k ≡ t
       → Tells b (id_of c l) (numbers_of c l (shut d k ∷ p.events))
   unfolding Tells
-  left-tells none c l true q =
+  left_tells none c l true q =
       subst (Tells b (id_of c l)) (sym (shut_on c d l k p.events q))
       (by_name b c d l k [] q (λ j x. not_both (sym (is_held_lem b (id_of d k) j x) ∙ none)))
-  left-tells none c l false q = subst (Tells b (id_of c l)) (sym (shut_off c d l k p.events q)) (known.tells c l)
+  left_tells none c l false q = subst (Tells b (id_of c l)) (sym (shut_off c d l k p.events q)) (known.tells c l)
 
-  close-known : after (closing b d k).book
-  close-known =
+  close_known : after (closing b d k).book
+  close_known =
       ⊎_elim
       (λ w.
       let h : place < length b = ltb-true _ _ w.held in
       subst after (sym w.frees)
       (record {
-        once = set-once b place free h known.once (λ j id n x y. free_not_held id y);
+        once = set_once b place free h known.once (λ j id n x y. free_not_held id y);
         long = length-set b place free ∙ known.long;
-        tells = λ c l. freed-tells h c l (same_sender c l d k) refl;
+        tells = λ c l. freed_tells h c l (same_sender c l d k) refl;
       }))
       (λ w.
       subst after (sym w.same)
       (record {
         once = known.once;
         long = known.long;
-        tells = λ c l. left-tells w.unknown c l (same_sender c l d k) refl;
+        tells = λ c l. left_tells w.unknown c l (same_sender c l d k) refl;
       }))
       (closing_cases b d k)
 
@@ -356,7 +356,7 @@ unfolding next numbers_of Tells
 known began =
     record { once = λ id i j x y. absurd (none_held book_places id i x); long = refl; tells = λ c l. none_held book_places (id_of c l) }
 known (called {p} h (takes s)) = take_known p s (known h) (taking p.book s) refl
-known (called {p} h (closes c l)) = close-known p c l (known h)
+known (called {p} h (closes c l)) = close_known p c l (known h)
 
 pub each_sender_once : EachSenderOnce
 each_sender_once p h = ((known h).once, (known h).long)

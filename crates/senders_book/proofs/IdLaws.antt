@@ -24,18 +24,18 @@ last_false false b e = refl
 
 -- the first n numbers, one by one
 module _ (xs ys : List ℕ) where
-  pub alike-start : alike 0 xs ys ≡ true
+  pub alike_start : alike 0 xs ys ≡ true
   unfolding alike
-  alike-start = refl
+  alike_start = refl
 
-  pub alike-more : (n : ℕ) → alike n xs ys ≡ true → get_or xs n 0 ≡ get_or ys n 0 → alike (n + 1) xs ys ≡ true
+  pub alike_more : (n : ℕ) → alike n xs ys ≡ true → get_or xs n 0 ≡ get_or ys n 0 → alike (n + 1) xs ys ≡ true
   unfolding alike
-  alike-more n a e = rw (add-one n, a, eq-eqb _ _ e) refl
+  alike_more n a e = rw (add-one n, a, eq-eqb _ _ e) refl
 
-  pub alike-stops : (n k : ℕ) → k < n → (get_or xs k 0 ≡ get_or ys k 0 → ⊥) → alike n xs ys ≡ false
+  pub alike_stops : (n k : ℕ) → k < n → (get_or xs k 0 ≡ get_or ys k 0 → ⊥) → alike n xs ys ≡ false
   unfolding alike
-  alike-stops zero k h d = absurd (omega arith)
-  alike-stops (suc n) k h d = go (λ l. alike-stops n k l d) (ltb k n) refl
+  alike_stops zero k h d = absurd (omega arith)
+  alike_stops (suc n) k h d = go (λ l. alike_stops n k l d) (ltb k n) refl
     where
       go : (k < n → alike n xs ys ≡ false) → (t : Bool) → ltb k n ≡ t → alike (suc n) xs ys ≡ false
       go r true e = rw (r (ltb-true _ _ e)) refl
@@ -59,10 +59,10 @@ module _ (xs ys : List ℕ) where
           let w : i ≡ n = omega (arith, ltb-false i n z) in
           ap (λ (j : ℕ). get_or xs j 0) w ∙ q ∙ ap (λ (j : ℕ). get_or ys j 0) (sym w)
 
-  alike-by : (n : ℕ) → ((i : ℕ) → i < n → get_or xs i 0 ≡ get_or ys i 0) → alike n xs ys ≡ true
+  alike_by : (n : ℕ) → ((i : ℕ) → i < n → get_or xs i 0 ≡ get_or ys i 0) → alike n xs ys ≡ true
   unfolding alike
-  alike-by zero h = refl
-  alike-by (suc n) h = rw (alike-by n (λ i l. h i (omega arith)), eq-eqb _ _ (h n (omega arith))) refl
+  alike_by zero h = refl
+  alike_by (suc n) h = rw (alike_by n (λ i l. h i (omega arith)), eq-eqb _ _ (h n (omega arith))) refl
 
 -- two ids, test by test
 module _ (x y : Id) where
@@ -105,7 +105,7 @@ common x y e =
     }
 
 same_by : (x y : Id) → Common x y → same_id x y ≡ true
-same_by x y c = sym (same_bytes x y c.code c.size c.short) ∙ alike-by x.bytes y.bytes y.length c.bytes
+same_by x y c = sym (same_bytes x y c.code c.size c.short) ∙ alike_by x.bytes y.bytes y.length c.bytes
 
 -- ids that are the same as a third are the same
 pub same_as : (x y z : Id) → same_id x z ≡ true → same_id y z ≡ true → same_id x y ≡ true
@@ -166,7 +166,7 @@ sender_true c d l k e =
 
 pub sender_self : (c : ℕ) (l : List ℕ) → same_sender c l c l ≡ true
 unfolding same_sender
-sender_self c l = rw (eq-eqb c c refl, eq-eqb (length l) (length l) refl, alike-by l l (length l) (λ i h. refl)) refl
+sender_self c l = rw (eq-eqb c c refl, eq-eqb (length l) (length l) refl, alike_by l l (length l) (λ i h. refl)) refl
 
 pub sender_sym : (c d : ℕ) (l k : List ℕ) → same_sender c l d k ≡ true → same_sender d k c l ≡ true
 sender_sym c d l k h =
@@ -175,13 +175,13 @@ sender_sym c d l k h =
 
 -- a place and an id
 module _ (e : Sender) (id : Id) where
-  pub holds-none : e.held ≡ false → false ≡ holds e id
+  pub holds_none : e.held ≡ false → false ≡ holds e id
   unfolding holds
-  holds-none h = rw h refl
+  holds_none h = rw h refl
 
-  pub holds-some : e.held ≡ true → same_id e.id id ≡ holds e id
+  pub holds_some : e.held ≡ true → same_id e.id id ≡ holds e id
   unfolding holds
-  holds-some h = rw h refl
+  holds_some h = rw h refl
 
   pub holds_same : holds e id ≡ true → same_id e.id id ≡ true
   unfolding holds

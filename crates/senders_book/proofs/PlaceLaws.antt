@@ -29,17 +29,17 @@ module _ (b : List Sender) (i : ℕ) where
     unfolding place_of
     place_end h = rw (drop_of_length-le b h) refl
 
-  pub free-here : i < length b → (entry_in b i).held ≡ false → free_place (drop i b) ≡ 0
+  pub free_here : i < length b → (entry_in b i).held ≡ false → free_place (drop i b) ≡ 0
   unfolding free_place
-  free-here h e = rw (drop-cons b i nowhere h, e) refl
+  free_here h e = rw (drop-cons b i nowhere h, e) refl
 
   pub free_on : i < length b → (entry_in b i).held ≡ true → free_place (drop i b) ≡ suc (free_place (drop (i + 1) b))
   unfolding free_place
   free_on h e = rw (drop-cons b i nowhere h, e, add-one i) refl
 
-  pub free-end : length b ≤ i → free_place (drop i b) ≡ 0
+  pub free_end : length b ≤ i → free_place (drop i b) ≡ 0
   unfolding free_place
-  free-end h = rw (drop_of_length-le b h) refl
+  free_end h = rw (drop_of_length-le b h) refl
 
 -- the first place of a sender
 pub place_least : (b : List Sender) (id : Id) (j : ℕ) → holds (entry_in b j) id ≡ true → place_of b id ≤ j
@@ -154,8 +154,8 @@ module _ (b : List Sender) (p : ℕ) (e : Sender) (h : p < length b) where
   pub set_same : entry_in (set b p e) p ≡ e
   set_same = get_or-set_same b p e nowhere h
 
-  pub set-entry : (i : ℕ) → entry_in (set b p e) i ≡ cond (eqb i p) e (entry_in b i)
-  set-entry i = go (eqb i p) refl
+  pub set_entry : (i : ℕ) → entry_in (set b p e) i ≡ cond (eqb i p) e (entry_in b i)
+  set_entry i = go (eqb i p) refl
     where
       go : (t : Bool) → eqb i p ≡ t → entry_in (set b p e) i ≡ cond t e (entry_in b i)
       go true q = ap (entry_in (set b p e)) (eqb-true i p q) ∙ set_same

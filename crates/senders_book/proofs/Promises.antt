@@ -48,9 +48,9 @@ use Rattle.senders_book.proofs.PlaceLaws.{
   is_not_held,
   place_set,
   set_same,
-  set-entry,
+  set_entry,
 }
-use Rattle.senders_book.proofs.TakeCases.{settling-held, settling-new, stamp-long, stamp-stops, stamp-goes}
+use Rattle.senders_book.proofs.TakeCases.{settling_held, settling_new, stamp_long, stamp-stops, stamp-goes}
 pub use Rattle.senders_book.proofs.StampLaws.{accepted_is_stamped, frames_are_enough, reading_comes_first}
 pub use Rattle.senders_book.proofs.IdLaws.{same_exactly}
 pub use Rattle.senders_book.proofs.PlaceLaws.{place_is_the_first, free_is_the_first}
@@ -76,21 +76,21 @@ module _ (b : List Sender) (t : Stamp) where
   module _ (short : length t.id ≤ id_bytes) where
     module _ (held : is_held b id ≡ true) where
       taken-on : lt_z (number_held b id) t.number ≡ true → stamping b t ≡ fine (entry_as t (place_of b id))
-      taken-on g = sym (stamp-goes b t short id refl _ (settling-held b id _ _ _ held ∙ rw g refl))
+      taken-on g = sym (stamp-goes b t short id refl _ (settling_held b id _ _ _ held ∙ rw g refl))
 
       number_behind : lt_z (number_held b id) t.number ≡ false → stamping b t ≡ refused 27 t.numbered
-      number_behind g = sym (stamp-stops b t short id refl _ _ (settling-held b id _ _ _ held ∙ rw g refl))
+      number_behind g = sym (stamp-stops b t short id refl _ _ (settling_held b id _ _ _ held ∙ rw g refl))
 
     module _ (new : is_held b id ≡ false) where
       taken_in : has_place b ≡ true → stamping b t ≡ fine (entry_as t (free_place b))
-      taken_in g = sym (stamp-goes b t short id refl _ (settling-new b id _ _ _ new ∙ rw g refl))
+      taken_in g = sym (stamp-goes b t short id refl _ (settling_new b id _ _ _ new ∙ rw g refl))
 
       book-full : has_place b ≡ false → stamping b t ≡ refused 28 t.sender
-      book-full g = sym (stamp-stops b t short id refl _ _ (settling-new b id _ _ _ new ∙ rw g refl))
+      book-full g = sym (stamp-stops b t short id refl _ _ (settling_new b id _ _ _ new ∙ rw g refl))
 
   -- what is taken, by its tests
-  taken-into : (e : Entry) → stamping b t ≡ fine e → Takes b t e
-  taken-into e q = long (leb (length t.id) id_bytes) refl
+  taken_into : (e : Entry) → stamping b t ≡ fine e → Takes b t e
+  taken_into e q = long (leb (length t.id) id_bytes) refl
     where
       -- the entry is the one that a case gives
       is : {i : ℕ} → stamping b t ≡ fine (entry_as t i) → (e.stamp ≡ t) × (e.place ≡ i)
@@ -111,7 +111,7 @@ module _ (b : List Sender) (t : Stamp) where
 
       long : (y : Bool) → leb (length t.id) id_bytes ≡ y → Takes b t e
       long true h = held (leb-true _ _ h) (is_held b id) refl
-      long false h = absurd (not_fine (stamp-long b t (leb-false _ _ h) ∙ q))
+      long false h = absurd (not_fine (stamp_long b t (leb-false _ _ h) ∙ q))
 
   taken_back : (e : Entry) → Takes b t e → stamping b t ≡ fine e
   taken_back e w =
@@ -120,8 +120,8 @@ module _ (b : List Sender) (t : Stamp) where
       (λ x. taken_in w.1 x.0 x.1 ∙ (λ i. fine (record { place = sym x.2 i; stamp = sym w.0 i })))
       w.2
 
-  refused-into : (k p : ℕ) → stamping b t ≡ refused k p → Refuses b t k p
-  refused-into k p q = long (leb (length t.id) id_bytes) refl
+  refused_into : (k p : ℕ) → stamping b t ≡ refused k p → Refuses b t k p
+  refused_into k p q = long (leb (length t.id) id_bytes) refl
     where
       old : (short : length t.id ≤ id_bytes) → is_held b id ≡ true → (y : Bool) → lt_z (number_held b id) t.number ≡ y
           → Refuses b t k p
@@ -142,21 +142,21 @@ module _ (b : List Sender) (t : Stamp) where
 
       long : (y : Bool) → leb (length t.id) id_bytes ≡ y → Refuses b t k p
       long true h = held (leb-true _ _ h) (is_held b id) refl
-      long false h = let w = same_refusal _ _ k p (stamp-long b t (leb-false _ _ h) ∙ q) in inl (w.0, w.1, leb-false _ _ h)
+      long false h = let w = same_refusal _ _ k p (stamp_long b t (leb-false _ _ h) ∙ q) in inl (w.0, w.1, leb-false _ _ h)
 
-  refused-back : (k p : ℕ) → Refuses b t k p → stamping b t ≡ refused k p
-  refused-back k p w =
-      ⊎_elim (λ x. sym (stamp-long b t x.2) ∙ (λ i. refused (sym x.0 i) (sym x.1 i)))
+  refused_back : (k p : ℕ) → Refuses b t k p → stamping b t ≡ refused k p
+  refused_back k p w =
+      ⊎_elim (λ x. sym (stamp_long b t x.2) ∙ (λ i. refused (sym x.0 i) (sym x.1 i)))
       (λ y.
       ⊎_elim (λ x. number_behind x.2 x.3 x.4 ∙ (λ i. refused (sym x.0 i) (sym x.1 i)))
       (λ x. book-full x.2 x.3 x.4 ∙ (λ i. refused (sym x.0 i) (sym x.1 i))) y)
       w
 
 pub taken_exactly : TakenExactly
-taken_exactly b t e = (taken-into b t e, taken_back b t e)
+taken_exactly b t e = (taken_into b t e, taken_back b t e)
 
 pub refused_exactly : RefusedExactly
-refused_exactly b t k p = (refused-into b t k p, refused-back b t k p)
+refused_exactly b t k p = (refused_into b t k p, refused_back b t k p)
 
 -- ---- the entry that is taken
 pub record Settled (b : List Sender) (t : Stamp) (p : ℕ) : Type 0 where
@@ -199,13 +199,13 @@ again b t e w =
     = ap (λ (j : ℕ). (entry_in after j).number) there
     ∙ ap (λ (x : Sender). x.number) (set_same b e.place (holding e.stamp) s.within)
     ∙ ap (λ (x : Stamp). x.number) w.0 in
-    refused-back after t 27 t.numbered
+    refused_back after t 27 t.numbered
     (inr (inl (refl, refl, s.short, held, ap (λ (z : ℤ). lt_z z t.number) number ∙ not_less t.number)))
 
 pub repeat_is_refused : RepeatIsRefused
 repeat_is_refused b s m e r z =
     let t = accepted_is_stamped s m r in
-    let w = taken-into b t.0 e (sym (t.2 b) ∙ z) in
+    let w = taken_into b t.0 e (sym (t.2 b) ∙ z) in
     ap (λ (a : Answer Entry). taking (book_after b a) s) z
     ∙ (t.2 (set b e.place (holding e.stamp)) ∙ (again b t.0 e w ∙ ap (refused 27) t.1.numbered))
 
@@ -247,7 +247,7 @@ closing_unknown b c l =
 pub freed : (b : List Sender) (id : Id) → Once b → place_of b id < length b → (j : ℕ)
     → holds (entry_in (set b (place_of b id) free) j) id ≡ true → ⊥
 freed b id once h j x =
-    go (eqb j (place_of b id)) refl (ap (λ (z : Sender). holds z id) (sym (set-entry b (place_of b id) free h j)) ∙ x)
+    go (eqb j (place_of b id)) refl (ap (λ (z : Sender). holds z id) (sym (set_entry b (place_of b id) free h j)) ∙ x)
   where
     go : (t : Bool) → eqb j (place_of b id) ≡ t → holds (cond t free (entry_in b j)) id ≡ true → ⊥
     go true q x = free_not_held id x

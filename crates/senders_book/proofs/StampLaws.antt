@@ -44,17 +44,17 @@ use Rattle.senders_book.proofs.TakeCases.{at-stamp}
 
 -- an outline that is fine: its place, and that it lies in s
 module _ (s : List ℕ) (at : ℕ) (x : Field) (q : outline s at ≡ fine x) where
-  outline-place : x.place ≡ at
+  outline_place : x.place ≡ at
   unfolding outline
-  outline-place =
+  outline_place =
       let a = bind_fine (head s at) _ q in
       let b = bind_fine (marks s a.0.marked a.0.next) _ a.2 in
       let n = needed_bind s b.0 (a.0.values * width_of a.0.code) _ b.2 in
       ap (λ (y : Field). y.place) (sym (fine_eq n.1))
 
-  pub outline-within : x.first + x.size ≤ length s
+  pub outline_within : x.first + x.size ≤ length s
   unfolding outline
-  outline-within =
+  outline_within =
       let a = bind_fine (head s at) _ q in
       let b = bind_fine (marks s a.0.marked a.0.next) _ a.2 in
       let n = needed_bind s b.0 (a.0.values * width_of a.0.code) _ b.2 in
@@ -78,7 +78,7 @@ frame_outline s codes at x q =
 -- a frame stands at the place that is said of it
 at_place : (s codes : List ℕ) (at p : ℕ) (x : Field) → frame s codes at ≡ fine x → x.place ≡ p → frame s codes p ≡ fine x
 at_place s codes at p x q e =
-    subst (λ (j : ℕ). frame s codes j ≡ fine x) (sym (outline-place s at x (frame_outline s codes at x q)) ∙ e) q
+    subst (λ (j : ℕ). frame s codes j ≡ fine x) (sym (outline_place s at x (frame_outline s codes at x q)) ∙ e) q
 
 -- frames 6 and 7, of which more is judged
 status_frame : (s : List ℕ) (at : ℕ) (x : Field) → status s at ≡ fine x → frame s status_codes at ≡ fine x

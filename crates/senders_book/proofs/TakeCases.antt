@@ -34,15 +34,15 @@ use Rattle.senders_book.specs.Taking.{Stamp, stamped, frame_place, stamp_at, ent
 
 -- what settling answers, by whether the sender is held
 module _ (b : List Sender) (id : Id) (n : ℤ) (sender numbered : ℕ) where
-  pub settling-held : is_held b id ≡ true
+  pub settling_held : is_held b id ≡ true
       → settling b id n sender numbered ≡ (guard (lt_z (number_held b id) n) 27 numbered >> fine (place_of b id))
   unfolding settling
-  settling-held h = rw h refl
+  settling_held h = rw h refl
 
-  pub settling-new : is_held b id ≡ false
+  pub settling_new : is_held b id ≡ false
       → settling b id n sender numbered ≡ (guard (has_place b) 28 sender >> fine (free_place b))
   unfolding settling
-  settling-new h = rw h refl
+  settling_new h = rw h refl
 
   -- a place for a number: of a sender that is held, and of a new one
   module _ (i : ℕ) (p : i ≡ place_of b id) where
@@ -53,12 +53,12 @@ module _ (b : List Sender) (id : Id) (n : ℤ) (sender numbered : ℕ) where
       pub settle-greater : lt_z (entry_in b i).number n ≡ true → fine i ≡ settling b id n sender numbered
       settle-greater g =
           let less : lt_z (number_held b id) n ≡ true = subst (λ (j : ℕ). lt_z (entry_in b j).number n ≡ true) p g in
-          ap fine p ∙ sym (settling-held held_at ∙ rw less refl)
+          ap fine p ∙ sym (settling_held held_at ∙ rw less refl)
 
       pub settle-behind : lt_z (entry_in b i).number n ≡ false → refused 27 numbered ≡ settling b id n sender numbered
       settle-behind g =
           let behind : lt_z (number_held b id) n ≡ false = subst (λ (j : ℕ). lt_z (entry_in b j).number n ≡ false) p g in
-          sym (settling-held held_at ∙ rw behind refl)
+          sym (settling_held held_at ∙ rw behind refl)
 
     module _ (h : length b ≤ i) (j : ℕ) (q : j ≡ free_place b) where
       new-at : is_held b id ≡ false
@@ -67,18 +67,18 @@ module _ (b : List Sender) (id : Id) (n : ℤ) (sender numbered : ℕ) where
       pub settle-new : j < length b → fine j ≡ settling b id n sender numbered
       settle-new g =
           let room : has_place b ≡ true = subst (λ (k : ℕ). ltb k (length b) ≡ true) q (lt-ltb j (length b) g) in
-          ap fine q ∙ sym (settling-new new-at ∙ rw room refl)
+          ap fine q ∙ sym (settling_new new-at ∙ rw room refl)
 
       pub settle-full : length b ≤ j → refused 28 sender ≡ settling b id n sender numbered
       settle-full g =
           let full : has_place b ≡ false = subst (λ (k : ℕ). ltb k (length b) ≡ false) q (le-ltb j (length b) g) in
-          sym (settling-new new-at ∙ rw full refl)
+          sym (settling_new new-at ∙ rw full refl)
 
 -- an entry for a stamp
 module _ (b : List Sender) (t : Stamp) where
-  pub stamp-long : id_bytes < length t.id → refused 26 t.sender ≡ stamping b t
+  pub stamp_long : id_bytes < length t.id → refused 26 t.sender ≡ stamping b t
   unfolding stamping
-  stamp-long h = rw (lt-leb (length t.id) id_bytes h) refl
+  stamp_long h = rw (lt-leb (length t.id) id_bytes h) refl
 
   module _ (h : length t.id ≤ id_bytes) (id : Id) (q : id ≡ id_of t.code t.id) where
     pub stamp-stops : (k p : ℕ) → settling b id t.number t.sender t.numbered ≡ refused k p
@@ -112,12 +112,12 @@ module _ (b : List Sender) (s : List ℕ) (frames : List Frame) where
 -- closing
 module _ (b : List Sender) (c : ℕ) (l : List ℕ) where
   -- nobody's id is too long
-  long-unknown : id_bytes < length l → is_held b (id_of c l) ≡ false
-  long-unknown h = is_not_held b (id_of c l) (λ j x. same_long _ c l h (holds_same (entry_in b j) (id_of c l) x))
+  long_unknown : id_bytes < length l → is_held b (id_of c l) ≡ false
+  long_unknown h = is_not_held b (id_of c l) (λ j x. same_long _ c l h (holds_same (entry_in b j) (id_of c l) x))
 
-  pub close-long : id_bytes < length l → record { held = false; book = b } ≡ closing b c l
+  pub close_long : id_bytes < length l → record { held = false; book = b } ≡ closing b c l
   unfolding closing
-  close-long h = rw (long-unknown h) refl
+  close_long h = rw (long_unknown h) refl
 
   module _ (id : Id) (q : id ≡ id_of c l) (i : ℕ) (p : i ≡ place_of b id) where
     pub close-held : i < length b → record { held = true; book = set b i free } ≡ closing b c l

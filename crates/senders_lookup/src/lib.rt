@@ -1,14 +1,14 @@
 // Looking into the book: the place of a sender, and the first that is free. The list of senders is lent to a lookup
 // that finds an entry by id.
 ghost use Rattle.std.specs.Prelude.{◌≡◌, ◌≤◌, ◌<◌, length};
-ghost use Rattle.senders_book.specs.Book.{id_bytes, alike as alikeTo, same_id, differs, entry_in, place_of, free_place};
+ghost use Rattle.senders_book.specs.Book.{id_bytes, alike as alike_to, same_id, differs, entry_in, place_of, free_place};
 
 use senders_book::{BOOK_PLACES, ID_BYTES, Id, Sender};
 
 // Whether the first n bytes of these two are the same.
 fn alike(x: [u8; ID_BYTES], y: [u8; ID_BYTES], n: usize) -> bool
     requires { n ≤ id_bytes }
-    ensures { result ≡ alikeTo n x y }
+    ensures { result ≡ alike_to n x y }
 {
     let mut k: usize = 0;
     while k < n {

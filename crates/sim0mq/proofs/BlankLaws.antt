@@ -119,6 +119,7 @@ blanked_stays s (f ∷ fs) i (more a b) z =
 -- the copy is zero in each value byte
 blanked_in : (s : List ℕ) (fs : List Field) (i : ℕ) → Each (Inside (length s)) fs → ValueByte fs i → byte (blanked s fs) i ≡ 0
 unfolding blanked
+blanked_in s [] i _ v = elim v [ ]
 blanked_in s (f ∷ fs) i (more a b) (here h k) =
     let e : i ≡ f.first + (i - f.first) = omega arith in
     blanked_stays (zeroed s f.first f.size) fs i (inside_to (sym (zeroed_long s f.first f.size a)) b)

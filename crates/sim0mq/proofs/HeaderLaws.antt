@@ -27,7 +27,7 @@ literal_complete [] st = ap fine (omega arith)
 literal_complete {s} {at} (b ∷ bs) st =
     let f = st.fits in
     simp (le-leb (at + 1) (length s) (omega arith), stands_head st, eq-eqb b b refl)
-    (literal_complete bs (stands_tail st) ∙ ap fine (omega arith))
+    (literal_complete {at = at + 1} bs (stands_tail st) ∙ ap fine (omega arith))
 
 literal_sound : (s bs : List ℕ) (at e : ℕ) → at ≤ length s → literal s bs at ≡ fine e → Stands s at bs
 unfolding literal

@@ -82,9 +82,9 @@ pub marks_complete : {s : List ℕ} {at : ℕ} (ms : List (List ℕ)) → Each I
     → marks s (length ms) at ≡ fine (at + length (joined ms))
 unfolding marks flat_map
 marks_complete [] none st = ap fine (omega arith)
-marks_complete (m ∷ ms) (more a b) st =
+marks_complete {at = at} (m ∷ ms) (more a b) st =
     rw (mark_complete a (stands_left m (joined ms) st))
-    (marks_complete ms b (stands_right m (joined ms) st) ∙ ap fine (omega (arith, length-append m (joined ms))))
+    (marks_complete {at = at + length m} ms b (stands_right m (joined ms) st) ∙ ap fine (omega (arith, length-append m (joined ms))))
 
 -- whatever is taken is a mark
 display_sound : (s : List ℕ) (t at e : ℕ) → display s t at ≡ fine e

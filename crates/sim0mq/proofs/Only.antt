@@ -29,21 +29,21 @@ module _ {A : Type 0} (s : List ℕ) (P : A → Type 0) (bytes : A → List ℕ)
       ap₂ ◌∷◌ same rest
 
 module _ (s : List ℕ) where
-  count-only : (at : ℕ) (x y : List ℕ) → IsCount x → IsCount y → Stands s at x → Stands s at y → x ≡ y
-  count-only at x y i j a b = stands_same x y (i.long ∙ sym j.long) a b
+  count_only : (at : ℕ) (x y : List ℕ) → IsCount x → IsCount y → Stands s at x → Stands s at y → x ≡ y
+  count_only at x y i j a b = stands_same x y (i.long ∙ sym j.long) a b
 
-  mark-only : (at : ℕ) (x y : List ℕ) → IsMark x → IsMark y → Stands s at x → Stands s at y → x ≡ y
-  mark-only at x y i j a b =
+  mark_only : (at : ℕ) (x y : List ℕ) → IsMark x → IsMark y → Stands s at x → Stands s at y → x ≡ y
+  mark_only at x y i j a b =
       let e : at + length x ≡ at + length y = fine_eq (sym (mark_complete i a) ∙ mark_complete j b) in stands_same x y (omega arith) a b
 
-  field-only : (at : ℕ) (f g : FieldParts) → IsField f → IsField g → Stands s at (field_bytes f) → Stands s at (field_bytes g) → f ≡ g
-  field-only at f g i j a b =
+  field_only : (at : ℕ) (f g : FieldParts) → IsField f → IsField g → Stands s at (field_bytes f) → Stands s at (field_bytes g) → f ≡ g
+  field_only at f g i j a b =
       let code : f.code ≡ g.code = sym (stands_head a) ∙ stands_head b in
       let fm = joined f.marks ++ f.values in
       let gm = joined g.marks ++ g.values in
       let counts : f.counts ≡ g.counts
       =
-      run_only s IsCount (λ l. l) count-only (at + 1) f.counts g.counts (i.counted ∙ ap counts_of code ∙ sym j.counted) i.is_counts j.is_counts
+      run_only s IsCount (λ l. l) count_only (at + 1) f.counts g.counts (i.counted ∙ ap counts_of code ∙ sym j.counted) i.is_counts j.is_counts
       (stands_left (joined f.counts) fm (stands_tail a)) (stands_left (joined g.counts) gm (stands_tail b)) in
       let p = at + 1 + length (joined f.counts) in
       let p' : at + 1 + length (joined g.counts) ≡ p = ap (λ (l : List (List ℕ)). at + 1 + length (joined l)) (sym counts) in
@@ -51,7 +51,7 @@ module _ (s : List ℕ) where
       let gb : Stands s p gm = stands_to p p' (stands_right (joined g.counts) gm (stands_tail b)) in
       let marks : f.marks ≡ g.marks
       =
-      run_only s IsMark (λ l. l) mark-only p f.marks g.marks
+      run_only s IsMark (λ l. l) mark_only p f.marks g.marks
       (i.marked ∙ ap₂ (λ (c : ℕ) (l : List (List ℕ)). marks_asked (marking_of c) l) code counts ∙ sym j.marked) i.is_marks j.is_marks
       (stands_left (joined f.marks) f.values fa) (stands_left (joined g.marks) g.values gb) in
       let q = p + length (joined f.marks) in
@@ -63,9 +63,9 @@ module _ (s : List ℕ) where
       (stands_right (joined f.marks) f.values fa) (stands_to q q' (stands_right (joined g.marks) g.values gb)) in
       λ k. record { code = code k; counts = counts k; marks = marks k; values = values k }
 
-  fields-only : (at : ℕ) (fs gs : List FieldParts) → length fs ≡ length gs → Each IsField fs → Each IsField gs
+  fields_only : (at : ℕ) (fs gs : List FieldParts) → length fs ≡ length gs → Each IsField fs → Each IsField gs
       → Stands s at (flat_map field_bytes fs) → Stands s at (flat_map field_bytes gs) → fs ≡ gs
-  fields-only = run_only s IsField field_bytes field-only
+  fields_only = run_only s IsField field_bytes field_only
 
 -- a header's frames, and the header again
 frames_back : FieldParts → List FieldParts → HeaderParts
@@ -94,7 +94,7 @@ header_only : (s : List ℕ) {m n : ℕ} (h k : HeaderParts) → IsHeader m h �
 unfolding frames_back
 header_only s h k i j a b =
     ap (frames_back h.run)
-    (fields-only s 10 (header_frames h) (header_frames k) refl (header_fields i) (header_fields j)
+    (fields_only s 10 (header_frames h) (header_frames k) refl (header_fields i) (header_fields j)
     (stands_right frame0 (flat_map field_bytes (header_frames h)) a) (stands_right frame0 (flat_map field_bytes (header_frames k)) b))
 
 pub message_only : (p q : MessageParts) → IsMessage p → IsMessage q → message_bytes p ≡ message_bytes q → p ≡ q
@@ -114,6 +114,6 @@ message_only p q i j e =
     let place : 0 + length (header_bytes q.header) ≡ at = ap (λ (h : HeaderParts). 0 + length (header_bytes h)) (sym header) in
     let fields : p.fields ≡ q.fields
     =
-    fields-only s at p.fields q.fields many i.is_fields j.is_fields (stands_right (header_bytes p.header) pf a)
+    fields_only s at p.fields q.fields many i.is_fields j.is_fields (stands_right (header_bytes p.header) pf a)
     (stands_to at place (stands_right (header_bytes q.header) qf b)) in
     λ k. record { header = header k; fields = fields k }

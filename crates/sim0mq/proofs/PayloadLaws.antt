@@ -31,7 +31,7 @@ payload_complete {s} {at} (f ∷ fs) (more a b) st e =
     let bytes = field_bytes f in
     let rest = flat_map field_bytes fs in
     let here = field_complete f a (stands_left bytes rest st) in
-    let there = payload_complete fs b (stands_right bytes rest st) (omega (arith, length-append bytes rest)) in
+    let there = payload_complete {at = at + length bytes} fs b (stands_right bytes rest st) (omega (arith, length-append bytes rest)) in
     simp (here, after_at at f, there)
 
 pub record FoundFields (s : List ℕ) (n at : ℕ) (xs : List Field) : Type 0 where

@@ -55,7 +55,7 @@ stands_cons {s} {l} {at} {x} e st = record { fits = let h = st.fits in omega ari
 pub stands_join : {s : List ℕ} {at : ℕ} (l m : List ℕ) → Stands s at l → Stands s (at + length l) m → Stands s at (l ++ m)
 stands_join {s} {at} [] m a b = stands_to at (add-zero at) b
 stands_join {s} {at} (x ∷ l) m a b =
-    stands_cons (stands_head a) (stands_join l m (stands_tail a) (stands_to (at + 1 + length l) (omega arith) b))
+    stands_cons (stands_head a) (stands_join {at = at + 1} l m (stands_tail a) (stands_to (at + 1 + length l) (omega arith) b))
 
 -- the n bytes from `at` on
 pub part : List ℕ → ℕ → ℕ → List ℕ

@@ -13,24 +13,24 @@ use Rattle.sim0mq_buffers.specs.Placing.{put_in, cleared_in}
 
 module _ (out : List ℕ) (at : ℕ) where
   -- one byte
-  pub placed-byte : (x : ℕ) → at < length out → set out at x ≡ placed out at (x ∷ [])
+  pub placed_byte : (x : ℕ) → at < length out → set out at x ≡ placed out at (x ∷ [])
   unfolding placed
-  placed-byte x h =
+  placed_byte x h =
       let e : suc at ≡ at + 1 = omega arith in
       set_split out at x h ∙ ap (λ (k : ℕ). take at out ++ (x ∷ drop k out)) e
 
   -- a text that is one byte
-  pub placed-single : (text : List ℕ) → length text ≡ 1 → at < length out → set out at (get_or text 0 0) ≡ placed out at text
-  placed-single [] e h = absurd (omega arith)
-  placed-single (x ∷ []) e h = placed-byte x h
-  placed-single (x ∷ (y ∷ l)) e h = absurd (omega arith)
+  pub placed_single : (text : List ℕ) → length text ≡ 1 → at < length out → set out at (get_or text 0 0) ≡ placed out at text
+  placed_single [] e h = absurd (omega arith)
+  placed_single (x ∷ []) e h = placed_byte x h
+  placed_single (x ∷ (y ∷ l)) e h = absurd (omega arith)
 
   -- a text copied to the front of the part from `at` on
-  pub placed-part : (text part : List ℕ) → at + length text ≤ length out
+  pub placed_part : (text part : List ℕ) → at + length text ≤ length out
       → part ≡ take (length text) text ++ drop (length text) (mid_of at (length out - at) out)
       → put_mid at (length out - at) out part ≡ placed out at text
   unfolding placed
-  placed-part text part h e =
+  placed_part text part h e =
       let k = length out - at in
       let mid : mid_of at k out ≡ drop at out = take_all k (drop at out) (omega (arith, length-drop at out)) in
       let past : drop k (drop at out) ≡ [] = drop_of_length-le (drop at out) {i = k} (omega (arith, length-drop at out)) in
@@ -43,33 +43,33 @@ module _ (out : List ℕ) (at : ℕ) where
   unfolding put_in
   put_fits text h = simp (le-leb (at + length text) (length out) h)
 
-  pub put-over : (text : List ℕ) → length out < at + length text → out ≡ put_in out at text
+  pub put_over : (text : List ℕ) → length out < at + length text → out ≡ put_in out at text
   unfolding put_in
-  put-over text h = simp (lt-leb (at + length text) (length out) h)
+  put_over text h = simp (lt-leb (at + length text) (length out) h)
 
   -- one zero
-  pub zeroed-byte : (n : ℕ) → n ≡ 1 → at < length out → set out at 0 ≡ zeroed out at n
+  pub zeroed_byte : (n : ℕ) → n ≡ 1 → at < length out → set out at 0 ≡ zeroed out at n
   unfolding zeroed
-  zeroed-byte n one h =
+  zeroed_byte n one h =
       let e : suc at ≡ at + 1 = omega arith in
       set_split out at 0 h ∙ ap (λ (k : ℕ). take at out ++ (0 ∷ drop k out)) e ∙ ap (λ (k : ℕ). take at out ++ (replicate k 0 ++ drop (at + k) out)) (sym one)
 
   -- and eight of them
-  pub zeroed-eight : (n : ℕ) → n ≡ 8 → at + 8 ≤ length out → sets out at (replicate 8 0) ≡ zeroed out at n
+  pub zeroed_eight : (n : ℕ) → n ≡ 8 → at + 8 ≤ length out → sets out at (replicate 8 0) ≡ zeroed out at n
   unfolding zeroed
-  zeroed-eight n eight h =
+  zeroed_eight n eight h =
       sets-eq (replicate 8 0) out at h
       ∙ append_assoc (take at out) (replicate 8 0) (drop (at + 8) out)
       ∙ ap (λ (k : ℕ). take at out ++ (replicate k 0 ++ drop (at + k) out)) (sym eight)
 
   -- n bytes that are there are cleared, and where they are not nothing changes
-  pub clear-fits : (n : ℕ) → at + n ≤ length out → cleared_in out at n ≡ zeroed out at n
+  pub clear_fits : (n : ℕ) → at + n ≤ length out → cleared_in out at n ≡ zeroed out at n
   unfolding cleared_in
-  clear-fits n h = simp (le-leb (at + n) (length out) h)
+  clear_fits n h = simp (le-leb (at + n) (length out) h)
 
-  pub clear-over : (n : ℕ) → length out < at + n → out ≡ cleared_in out at n
+  pub clear_over : (n : ℕ) → length out < at + n → out ≡ cleared_in out at n
   unfolding cleared_in
-  clear-over n h = simp (lt-leb (at + n) (length out) h)
+  clear_over n h = simp (lt-leb (at + n) (length out) h)
 
 -- what is placed at the front stands there
 pub front_stands : (out text : List ℕ) → take (length text) (placed out 0 text) ≡ text

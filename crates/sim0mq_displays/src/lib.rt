@@ -1,4 +1,6 @@
 // Currency codes and display codes: which of them are taken.
+#![tactic(auto)]
+
 ghost use Rattle.std.specs.Prelude.{◌≡◌, ℕ, ◌+◌, ◌*◌, ◌<◌};
 ghost use Rattle.sim0mq_tables.specs.Bits.{bit};
 ghost use Rattle.sim0mq.specs.Mark.{currency_taken, display_taken};

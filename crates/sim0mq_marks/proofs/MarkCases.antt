@@ -18,38 +18,38 @@ use Rattle.sim0mq_numbers.specs.Numbers.{number_at}
 use Rattle.sim0mq_numbers.proofs.NumberCases.{number_there}
 
 module _ (row s : List ℕ) where
-  pub display-short : (t at : ℕ) → length s ≤ at → display_by row s t at ≡ refused 1 (length s)
+  pub display_short : (t at : ℕ) → length s ≤ at → display_by row s t at ≡ refused 1 (length s)
   unfolding display_by
-  display-short t at h = simp (lt-leb (at + 1) (length s) (omega arith))
+  display_short t at h = simp (lt-leb (at + 1) (length s) (omega arith))
 
-  pub display-over : (t at : ℕ) → at < length s → leb (byte s at) (get_or row t 0) ≡ false → display_by row s t at ≡ refused 12 at
+  pub display_over : (t at : ℕ) → at < length s → leb (byte s at) (get_or row t 0) ≡ false → display_by row s t at ≡ refused 12 at
   unfolding display_by
-  display-over t at h k = simp (le-leb (at + 1) (length s) (omega arith), k)
+  display_over t at h k = simp (le-leb (at + 1) (length s) (omega arith), k)
 
-  pub display-fine : (t at : ℕ) → at < length s → leb (byte s at) (get_or row t 0) ≡ true → display_by row s t at ≡ fine (at + 1)
+  pub display_fine : (t at : ℕ) → at < length s → leb (byte s at) (get_or row t 0) ≡ true → display_by row s t at ≡ fine (at + 1)
   unfolding display_by
-  display-fine t at h k = simp (le-leb (at + 1) (length s) (omega arith), k)
+  display_fine t at h k = simp (le-leb (at + 1) (length s) (omega arith), k)
 
-  pub mark-short : (at : ℕ) → length s ≤ at → mark_by row s at ≡ refused 1 (length s)
+  pub mark_short : (at : ℕ) → length s ≤ at → mark_by row s at ≡ refused 1 (length s)
   unfolding mark_by
-  mark-short at h = simp (lt-leb (at + 1) (length s) (omega arith))
+  mark_short at h = simp (lt-leb (at + 1) (length s) (omega arith))
 
 module _ (s : List ℕ) where
   -- what was told of the number read is told of the two bytes
-  pub currency-told : (at n : ℕ) (t r : Bool) → at + 2 ≤ length s → n ≡ number_at s at 2 → t ≡ currency_taken n → t ≡ r → currency_taken (big s at 2) ≡ r
-  currency-told at n t r h e f g = ap currency_taken (sym (number_there s at 2 h (omega arith)) ∙ sym e) ∙ sym f ∙ g
+  pub currency_told : (at n : ℕ) (t r : Bool) → at + 2 ≤ length s → n ≡ number_at s at 2 → t ≡ currency_taken n → t ≡ r → currency_taken (big s at 2) ≡ r
+  currency_told at n t r h e f g = ap currency_taken (sym (number_there s at 2 h (omega arith)) ∙ sym e) ∙ sym f ∙ g
 
-  pub currency-short : (at : ℕ) → length s < at + 2 → currency s at ≡ refused 1 (length s)
+  pub currency_short : (at : ℕ) → length s < at + 2 → currency s at ≡ refused 1 (length s)
   unfolding currency
-  currency-short at h = simp (lt-leb (at + 2) (length s) h)
+  currency_short at h = simp (lt-leb (at + 2) (length s) h)
 
-  pub currency-over : (at : ℕ) → at + 2 ≤ length s → currency_taken (big s at 2) ≡ false → currency s at ≡ refused 19 at
+  pub currency_over : (at : ℕ) → at + 2 ≤ length s → currency_taken (big s at 2) ≡ false → currency s at ≡ refused 19 at
   unfolding currency
-  currency-over at h k = simp (le-leb (at + 2) (length s) h, k)
+  currency_over at h k = simp (le-leb (at + 2) (length s) h, k)
 
-  pub currency-fine : (at : ℕ) → at + 2 ≤ length s → currency_taken (big s at 2) ≡ true → currency s at ≡ fine (at + 2)
+  pub currency_fine : (at : ℕ) → at + 2 ≤ length s → currency_taken (big s at 2) ≡ true → currency s at ≡ fine (at + 2)
   unfolding currency
-  currency-fine at h k = simp (le-leb (at + 2) (length s) h, k)
+  currency_fine at h k = simp (le-leb (at + 2) (length s) h, k)
 
 -- the unit types of money per quantity are unit types
 pub per_known : (k : ℕ) → get_or per_row k 0 < 29
@@ -79,78 +79,78 @@ kind_above u h = simp (lt-leb u 28 (omega arith), lt-leb u 99 (omega arith), ne_
 
 -- a mark whose unit type is u
 module _ (row s : List ℕ) (at u : ℕ) (there : at < length s) (is : u ≡ byte s at) where
-  mark-of : (k : Kind) → kind_of u ≡ k → mark_by row s at ≡ mark_rest_by row s at k
+  mark_of_lem : (k : Kind) → kind_of u ≡ k → mark_by row s at ≡ mark_rest_by row s at k
   unfolding mark_by
-  mark-of k e = simp (le-leb (at + 1) (length s) (omega arith), ← is, e)
+  mark_of_lem k e = simp (le-leb (at + 1) (length s) (omega arith), ← is, e)
 
-  pub mark-plain : u ≤ 28 → mark_by row s at ≡ display_by row s u (at + 1)
+  pub mark_plain : u ≤ 28 → mark_by row s at ≡ display_by row s u (at + 1)
   unfolding mark_rest_by
-  mark-plain k = mark-of (plain u) (kind_plain u k)
+  mark_plain k = mark_of_lem (plain u) (kind_plain u k)
 
-  pub mark-between : 28 < u → u ≤ 99 → mark_by row s at ≡ refused 11 at
+  pub mark_between : 28 < u → u ≤ 99 → mark_by row s at ≡ refused 11 at
   unfolding mark_rest_by
-  mark-between k l = mark-of unknown (kind_between u k l)
+  mark_between k l = mark_of_lem unknown (kind_between u k l)
 
-  pub mark-above : 106 < u → mark_by row s at ≡ refused 11 at
+  pub mark_above : 106 < u → mark_by row s at ≡ refused 11 at
   unfolding mark_rest_by
-  mark-above k = mark-of unknown (kind_above u k)
+  mark_above k = mark_of_lem unknown (kind_above u k)
 
-  pub mark-money : u ≡ 100 → mark_by row s at ≡ currency s (at + 1)
+  pub mark_money : u ≡ 100 → mark_by row s at ≡ currency s (at + 1)
   unfolding mark_rest_by
-  mark-money k = mark-of money (kind_money u k)
+  mark_money k = mark_of_lem money (kind_money u k)
 
-  pub mark-per-fine : (t p : ℕ) → 100 < u → u ≤ 106 → t ≡ get_or per_row (u - 101) 0 → currency s (at + 1) ≡ fine p → mark_by row s at ≡ display_by row s t p
+  pub mark_per_fine : (t p : ℕ) → 100 < u → u ≤ 106 → t ≡ get_or per_row (u - 101) 0 → currency s (at + 1) ≡ fine p → mark_by row s at ≡ display_by row s t p
   unfolding mark_rest_by
-  mark-per-fine t p k l e q = mark-of (money_per (get_or per_row (u - 101) 0)) (kind_per u k l) ∙ simp (q, e)
+  mark_per_fine t p k l e q = mark_of_lem (money_per (get_or per_row (u - 101) 0)) (kind_per u k l) ∙ simp (q, e)
 
-  pub mark-per-stop : (k p : ℕ) → 100 < u → u ≤ 106 → currency s (at + 1) ≡ refused k p → mark_by row s at ≡ refused k p
+  pub mark_per_stop : (k p : ℕ) → 100 < u → u ≤ 106 → currency s (at + 1) ≡ refused k p → mark_by row s at ≡ refused k p
   unfolding mark_rest_by
-  mark-per-stop k p i l q = mark-of (money_per (get_or per_row (u - 101) 0)) (kind_per u i l) ∙ simp q
+  mark_per_stop k p i l q = mark_of_lem (money_per (get_or per_row (u - 101) 0)) (kind_per u i l) ∙ simp q
 
 -- the same, where the most bytes that a mark has are there
 module _ (row s : List ℕ) (at u : ℕ) (room : at + 4 ≤ length s) (is : u ≡ byte s at) where
-  pub roomy-plain : u ≤ 28 → leb (byte s (at + 1)) (get_or row u 0) ≡ true → mark_by row s at ≡ fine (at + 2)
-  roomy-plain k d = mark-plain row s at u (omega arith) is k ∙ display-fine row s u (at + 1) (omega arith) d ∙ ap fine (omega arith)
+  pub roomy_plain : u ≤ 28 → leb (byte s (at + 1)) (get_or row u 0) ≡ true → mark_by row s at ≡ fine (at + 2)
+  roomy_plain k d = mark_plain row s at u (omega arith) is k ∙ display_fine row s u (at + 1) (omega arith) d ∙ ap fine (omega arith)
 
-  pub roomy-plain-over : u ≤ 28 → leb (byte s (at + 1)) (get_or row u 0) ≡ false → mark_by row s at ≡ refused 12 (at + 1)
-  roomy-plain-over k d = mark-plain row s at u (omega arith) is k ∙ display-over row s u (at + 1) (omega arith) d
+  pub roomy_plain_over : u ≤ 28 → leb (byte s (at + 1)) (get_or row u 0) ≡ false → mark_by row s at ≡ refused 12 (at + 1)
+  roomy_plain_over k d = mark_plain row s at u (omega arith) is k ∙ display_over row s u (at + 1) (omega arith) d
 
-  pub roomy-currency-over : 99 < u → u ≤ 106 → currency_taken (big s (at + 1) 2) ≡ false → mark_by row s at ≡ refused 19 (at + 1)
-  roomy-currency-over k l d = go (eqb u 100) refl
+  pub roomy_currency_over : 99 < u → u ≤ 106 → currency_taken (big s (at + 1) 2) ≡ false → mark_by row s at ≡ refused 19 (at + 1)
+  roomy_currency_over k l d = go (eqb u 100) refl
     where
       over : currency s (at + 1) ≡ refused 19 (at + 1)
-      over = currency-over s (at + 1) (omega arith) d
+      over = currency_over s (at + 1) (omega arith) d
 
       go : (t : Bool) → eqb u 100 ≡ t → mark_by row s at ≡ refused 19 (at + 1)
-      go true e = mark-money row s at u (omega arith) is (eqb-true u 100 e) ∙ over
-      go false e = let other = eqb-false u 100 e in mark-per-stop row s at u (omega arith) is 19 (at + 1) (omega arith) l over
+      go true e = mark_money row s at u (omega arith) is (eqb-true u 100 e) ∙ over
+      go false e = let other = eqb-false u 100 e in mark_per_stop row s at u (omega arith) is 19 (at + 1) (omega arith) l over
 
   taken : currency_taken (big s (at + 1) 2) ≡ true → currency s (at + 1) ≡ fine (at + 3)
-  taken d = currency-fine s (at + 1) (omega arith) d ∙ ap fine (omega arith)
+  taken d = currency_fine s (at + 1) (omega arith) d ∙ ap fine (omega arith)
 
-  pub roomy-money : u ≡ 100 → currency_taken (big s (at + 1) 2) ≡ true → mark_by row s at ≡ fine (at + 3)
-  roomy-money k d = mark-money row s at u (omega arith) is k ∙ taken d
+  pub roomy_money : u ≡ 100 → currency_taken (big s (at + 1) 2) ≡ true → mark_by row s at ≡ fine (at + 3)
+  roomy_money k d = mark_money row s at u (omega arith) is k ∙ taken d
 
-  pub roomy-per : (t : ℕ) → 100 < u → u ≤ 106 → t ≡ get_or per_row (u - 101) 0 → currency_taken (big s (at + 1) 2) ≡ true
+  pub roomy_per : (t : ℕ) → 100 < u → u ≤ 106 → t ≡ get_or per_row (u - 101) 0 → currency_taken (big s (at + 1) 2) ≡ true
       → leb (byte s (at + 3)) (get_or row t 0) ≡ true → mark_by row s at ≡ fine (at + 4)
-  roomy-per t k l e d f =
-      mark-per-fine row s at u (omega arith) is t (at + 3) k l e (taken d) ∙ display-fine row s t (at + 3) (omega arith) f ∙ ap fine (omega arith)
+  roomy_per t k l e d f =
+      mark_per_fine row s at u (omega arith) is t (at + 3) k l e (taken d) ∙ display_fine row s t (at + 3) (omega arith) f ∙ ap fine (omega arith)
 
-  pub roomy-per-over : (t : ℕ) → 100 < u → u ≤ 106 → t ≡ get_or per_row (u - 101) 0 → currency_taken (big s (at + 1) 2) ≡ true
+  pub roomy_per_over : (t : ℕ) → 100 < u → u ≤ 106 → t ≡ get_or per_row (u - 101) 0 → currency_taken (big s (at + 1) 2) ≡ true
       → leb (byte s (at + 3)) (get_or row t 0) ≡ false → mark_by row s at ≡ refused 12 (at + 3)
-  roomy-per-over t k l e d f = mark-per-fine row s at u (omega arith) is t (at + 3) k l e (taken d) ∙ display-over row s t (at + 3) (omega arith) f
+  roomy_per_over t k l e d f = mark_per_fine row s at u (omega arith) is t (at + 3) k l e (taken d) ∙ display_over row s t (at + 3) (omega arith) f
 
 -- the marks from a place on: none left, one more, or a refusal
 module _ (s : List ℕ) where
-  pub marks-done : (n at : ℕ) → n ≡ 0 → marks s n at ≡ fine at
+  pub marks_done : (n at : ℕ) → n ≡ 0 → marks s n at ≡ fine at
   unfolding marks
-  marks-done n at e = simp e
+  marks_done n at e = simp e
 
-  pub marks-more : (n m at p : ℕ) → n ≡ m + 1 → mark s at ≡ fine p → marks s n at ≡ marks s m p
+  pub marks_more : (n m at p : ℕ) → n ≡ m + 1 → mark s at ≡ fine p → marks s n at ≡ marks s m p
   unfolding marks
-  marks-more n m at p e q = simp (e, add-one, q)
+  marks_more n m at p e q = simp (e, add-one, q)
 
-  pub marks-stop : (n at k p : ℕ) → 0 < n → mark s at ≡ refused k p → marks s n at ≡ refused k p
+  pub marks_stop : (n at k p : ℕ) → 0 < n → mark s at ≡ refused k p → marks s n at ≡ refused k p
   unfolding marks
-  marks-stop zero at k p h q = absurd (not-suc-le-zero h)
-  marks-stop (suc n) at k p h q = simp q
+  marks_stop zero at k p h q = absurd (not-suc-le-zero h)
+  marks_stop (suc n) at k p h q = simp q

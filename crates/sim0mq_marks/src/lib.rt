@@ -1,6 +1,8 @@
 // Unit marks.
+#![tactic(auto)]
+
 ghost use Rattle.std.specs.Prelude.{◌≡◌, ◌+◌, ◌<◌, ◌≤◌, length};
-ghost use Rattle.sim0mq.specs.Mark.{currency as currencyOf, mark as mark_of, marks as marksOf};
+ghost use Rattle.sim0mq.specs.Mark.{currency as currency_of, mark as mark_of, marks as marks_of};
 ghost use Rattle.sim0mq.specs.Views.{judged};
 ghost use Rattle.sim0mq_marks.specs.By.{display_by, mark_by};
 
@@ -12,7 +14,7 @@ use sim0mq_tables::{lasts, per};
 // The currency code at `at`: the place after it.
 fn currency(s: &[u8], at: usize) -> Judged
     requires { at ≤ length s.now }
-    ensures { judged result ≡ currencyOf s.now at }
+    ensures { judged result ≡ currency_of s.now at }
 {
     if s.len() - at < 2 {
         return sim0mq::refuse(1, s.len());
@@ -115,7 +117,7 @@ pub fn mark(s: &[u8], at: usize) -> Judged
 
 // The n marks from `at` on: the place after them.
 pub fn marks(s: &[u8], n: usize, at: usize) -> Judged
-    ensures { judged result ≡ marksOf s.now n at }
+    ensures { judged result ≡ marks_of s.now n at }
 {
     let mut left = n;
     let mut p = at;

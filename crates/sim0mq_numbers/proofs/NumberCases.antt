@@ -24,9 +24,9 @@ module _ (s : List ℕ) (at n : ℕ) where
   unfolding number_at
   number_short h = simp (lt-leb (at + n) (length s) h)
 
-  pub number-long : at + n ≤ length s → 8 < n → 0 ≡ number_at s at n
+  pub number_long : at + n ≤ length s → 8 < n → 0 ≡ number_at s at n
   unfolding number_at
-  number-long h k = simp (le-leb (at + n) (length s) h, lt-leb n 8 k)
+  number_long h k = simp (le-leb (at + n) (length s) h, lt-leb n 8 k)
 
   pub number_more : big s at n * 256 + byte s (at + n) ≡ big s at (n + 1)
   unfolding big
@@ -34,17 +34,17 @@ module _ (s : List ℕ) (at n : ℕ) where
 
 -- counts
 module _ (s : List ℕ) (at : ℕ) where
-  pub count-short : length s < at + 4 → count s at ≡ refused 1 (length s)
+  pub count_short : length s < at + 4 → count s at ≡ refused 1 (length s)
   unfolding count
-  count-short h = simp (lt-leb (at + 4) (length s) h)
+  count_short h = simp (lt-leb (at + 4) (length s) h)
 
-  pub count-negative : at + 4 ≤ length s → 128 ≤ byte s at → count s at ≡ refused 5 at
+  pub count_negative : at + 4 ≤ length s → 128 ≤ byte s at → count s at ≡ refused 5 at
   unfolding count not_negative
-  count-negative h k = simp (le-leb (at + 4) (length s) h, le-ltb (byte s at) 128 k)
+  count_negative h k = simp (le-leb (at + 4) (length s) h, le-ltb (byte s at) 128 k)
 
-  pub count-fine : (n : ℕ) → at + 4 ≤ length s → byte s at < 128 → n ≡ number_at s at 4 → count s at ≡ fine n
+  pub count_fine : (n : ℕ) → at + 4 ≤ length s → byte s at < 128 → n ≡ number_at s at 4 → count s at ≡ fine n
   unfolding count not_negative
-  count-fine n h k e =
+  count_fine n h k e =
       let b : n ≡ big s at 4 = e ∙ number_there s at 4 h (omega arith) in
       simp (le-leb (at + 4) (length s) h, lt-ltb (byte s at) 128 k) (ap fine (sym b))
 

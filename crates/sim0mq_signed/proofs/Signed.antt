@@ -40,11 +40,11 @@ module _ (w : Width) (y : ℕ) (h : y < 2 ^ hbits w) where
   flip : negsuc 0 -ℤ to_z w y ≡ negsuc y
   flip = rw (to_z_pos w y h) (minus_one y)
 
-  pub flip-fits : SFits w (negsuc 0 -ℤ to_z w y)
-  flip-fits = rw flip (record { sfits = h })
+  pub flip_fits : SFits w (negsuc 0 -ℤ to_z w y)
+  flip_fits = rw flip (record { sfits = h })
 
-  pub flip-back : to_z w (of_z w (negsuc 0 -ℤ to_z w y)) ≡ negsuc y
-  flip-back = to_z-of_z w _ flip-fits ∙ flip
+  pub flip_back : to_z w (of_z w (negsuc 0 -ℤ to_z w y)) ≡ negsuc y
+  flip_back = to_z-of_z w _ flip_fits ∙ flip
 
 unflip : (z : ℤ) → le_z (pos 0) z ≡ false → negsuc 0 -ℤ z ≡ pos (mag z)
 unflip (pos n) e = let h : n < 0 = leb-false 0 n e in absurd (omega arith)

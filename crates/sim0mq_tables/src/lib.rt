@@ -1,6 +1,8 @@
 // The rows of the format's tables (specs Codes and Mark of sim0mq). Those of field codes are written as code, since a
 // constant array is laid out anew at each lookup; those of display codes are rows, to be held against the manual's
 // page.
+#![tactic(auto)]
+
 ghost use Rattle.std.specs.Prelude.{◌≡◌, ◌≤◌, get_or};
 ghost use Rattle.sim0mq.specs.Codes.{counts_of, marking_of, width_of};
 ghost use Rattle.sim0mq.specs.Mark.{last_row, per_row};

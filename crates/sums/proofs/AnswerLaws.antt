@@ -25,13 +25,13 @@ module _ (rule : Quantity → Quantity → Answer Quantity) (a b : Scalar) where
   unfolding answer
   answer_at m n e f = rw (e, f)
 
-  pub answer-first : measured a ≡ refused 17 0 → answer rule a b ≡ refused 17 0
+  pub answer_first : measured a ≡ refused 17 0 → answer rule a b ≡ refused 17 0
   unfolding answer
-  answer-first e = rw e
+  answer_first e = rw e
 
-  pub answer-second : (m : Measured) → measured a ≡ fine m → measured b ≡ refused 17 0 → answer rule a b ≡ refused 17 0
+  pub answer_second : (m : Measured) → measured a ≡ fine m → measured b ≡ refused 17 0 → answer rule a b ≡ refused 17 0
   unfolding answer
-  answer-second m e f = rw (e, f)
+  answer_second m e f = rw (e, f)
 
 -- is there an answer?
 abbrev is_fine : Answer Quantity → Bool
@@ -59,24 +59,24 @@ module _ (u : ℕ) (h : 28 < u) where
   none_above [] x l = refl
   none_above (p ∷ ps) x l = rw (missed p.relative_unit l.0, missed p.absolute_unit l.1.0) (none_above ps x l.1.1)
 
-  pub adds-none-first : (ps : List Pair) (v : ℕ) → AreLow ps → adds_in ps u v ≡ false
-  adds-none-first [] v l = refl
-  adds-none-first (p ∷ ps) v l = rw (missed p.relative_unit l.0, missed p.absolute_unit l.1.0) (adds-none-first ps v l.1.1)
+  pub adds_none_first : (ps : List Pair) (v : ℕ) → AreLow ps → adds_in ps u v ≡ false
+  adds_none_first [] v l = refl
+  adds_none_first (p ∷ ps) v l = rw (missed p.relative_unit l.0, missed p.absolute_unit l.1.0) (adds_none_first ps v l.1.1)
 
-  pub adds-none-second : (ps : List Pair) (w : ℕ) → AreLow ps → adds_in ps w u ≡ false
-  adds-none-second [] w l = refl
-  adds-none-second (p ∷ ps) w l =
-      simp (missed p.relative_unit l.0, missed p.absolute_unit l.1.0, and_false) (adds-none-second ps w l.1.1)
+  pub adds_none_second : (ps : List Pair) (w : ℕ) → AreLow ps → adds_in ps w u ≡ false
+  adds_none_second [] w l = refl
+  adds_none_second (p ∷ ps) w l =
+      simp (missed p.relative_unit l.0, missed p.absolute_unit l.1.0, and_false) (adds_none_second ps w l.1.1)
 
-  pub subtracts-none-first : (ps : List Pair) (v : ℕ) → AreLow ps → subtracts_in ps u v ≡ false
-  subtracts-none-first [] v l = refl
-  subtracts-none-first (p ∷ ps) v l =
-      rw (missed p.relative_unit l.0, missed p.absolute_unit l.1.0) (subtracts-none-first ps v l.1.1)
+  pub subtracts_none_first : (ps : List Pair) (v : ℕ) → AreLow ps → subtracts_in ps u v ≡ false
+  subtracts_none_first [] v l = refl
+  subtracts_none_first (p ∷ ps) v l =
+      rw (missed p.relative_unit l.0, missed p.absolute_unit l.1.0) (subtracts_none_first ps v l.1.1)
 
-  pub subtracts-none-second : (ps : List Pair) (w : ℕ) → AreLow ps → subtracts_in ps w u ≡ false
-  subtracts-none-second [] w l = refl
-  subtracts-none-second (p ∷ ps) w l =
-      simp (missed p.relative_unit l.0, missed p.absolute_unit l.1.0, and_false) (subtracts-none-second ps w l.1.1)
+  pub subtracts_none_second : (ps : List Pair) (w : ℕ) → AreLow ps → subtracts_in ps w u ≡ false
+  subtracts_none_second [] w l = refl
+  subtracts_none_second (p ∷ ps) w l =
+      simp (missed p.relative_unit l.0, missed p.absolute_unit l.1.0, and_false) (subtracts_none_second ps w l.1.1)
 
 no_second : (rule : Quantity → Quantity → Answer Quantity) (a : Answer Quantity) → is_fine (combined rule a (refused 24 0)) ≡ false
 no_second rule (fine q) = refl
@@ -107,13 +107,13 @@ module _ (rule : Quantity → Quantity → Answer Quantity) (page : ℕ → ℕ 
 
 pub sums_agree : Agrees quantity_sum (adds_in pairs)
 unfolding all_below quantity_in quantity_sum
-sums_agree = agreed quantity_sum (adds_in pairs) (λ x y. refl) (λ u v h. adds-none-first u h pairs v pairs_low) (λ u v h. adds-none-second v h pairs u pairs_low)
+sums_agree = agreed quantity_sum (adds_in pairs) (λ x y. refl) (λ u v h. adds_none_first u h pairs v pairs_low) (λ u v h. adds_none_second v h pairs u pairs_low)
 
 pub differences_agree : Agrees quantity_difference (subtracts_in pairs)
 unfolding all_below quantity_in quantity_difference
 differences_agree =
-    agreed quantity_difference (subtracts_in pairs) (λ x y. refl) (λ u v h. subtracts-none-first u h pairs v pairs_low)
-    (λ u v h. subtracts-none-second v h pairs u pairs_low)
+    agreed quantity_difference (subtracts_in pairs) (λ x y. refl) (λ u v h. subtracts_none_first u h pairs v pairs_low)
+    (λ u v h. subtracts_none_second v h pairs u pairs_low)
 
 -- what the answer is
 pub data Outcome (rule : Quantity → Quantity → Answer Quantity) (page : ℕ → ℕ → Bool) (m n : Measured) : Type 0 where

@@ -53,34 +53,34 @@ unfolding with_float
 float_with_not n m = neither (nan_bits binary32 n) (NotNumber 25) (FloatUnit (of_bits binary32 n) m) refl refl
 
 module _ (x : Float) (m : Mark) where
-  no-double-unit : (v : Scalar) → v ≡ DoubleUnit x m → is_double v ≡ false → ⊥
-  no-double-unit v e h = false≢true (sym h ∙ ap is_double e)
+  no_double_unit : (v : Scalar) → v ≡ DoubleUnit x m → is_double v ≡ false → ⊥
+  no_double_unit v e h = false≢true (sym h ∙ ap is_double e)
 
-  mark-of : (b : Bool) (y : Float) (n : Mark) → cond b (NotNumber 26) (DoubleUnit y n) ≡ DoubleUnit x m → n ≡ m
-  mark-of true y n e = absurd (no-double-unit (NotNumber 26) e refl)
-  mark-of false y n e = cc
+  mark_of_lem : (b : Bool) (y : Float) (n : Mark) → cond b (NotNumber 26) (DoubleUnit y n) ≡ DoubleUnit x m → n ≡ m
+  mark_of_lem true y n e = absurd (no_double_unit (NotNumber 26) e refl)
+  mark_of_lem false y n e = cc
 
-  mark-with : (j : ℕ) (n : Mark) → with_double j n ≡ DoubleUnit x m → n ≡ m
+  mark_with : (j : ℕ) (n : Mark) → with_double j n ≡ DoubleUnit x m → n ≡ m
   unfolding with_double
-  mark-with j n e = mark-of (nan_bits binary64 j) (of_bits binary64 j) n e
+  mark_with j n e = mark_of_lem (nan_bits binary64 j) (of_bits binary64 j) n e
 
   read_taken : (s : List ℕ) (k : ℕ) (f : Field) → asked s k ≡ fine f → ReadAs s f (DoubleUnit x m) → IsTaken m
   unfolding counts_of marking_of marks_asked
-  read_taken s k f q (as_byte c e) = absurd (no-double-unit _ e refl)
-  read_taken s k f q (as_short c e) = absurd (no-double-unit _ e refl)
-  read_taken s k f q (as_int c e) = absurd (no-double-unit _ e refl)
-  read_taken s k f q (as_long c e) = absurd (no-double-unit _ e refl)
-  read_taken s k f q (as_float c e) = absurd (no-double-unit _ e (float_not _))
-  read_taken s k f q (as_double c e) = absurd (no-double-unit _ e (double_not _))
-  read_taken s k f q (as_boolean c b e g) = absurd (no-double-unit _ e refl)
-  read_taken s k f q (as_char8 c e) = absurd (no-double-unit _ e refl)
-  read_taken s k f q (as_char16 c e) = absurd (no-double-unit _ e refl)
-  read_taken s k f q (as_float_unit c e) = absurd (no-double-unit _ e (float_with_not _ _))
+  read_taken s k f q (as_byte c e) = absurd (no_double_unit _ e refl)
+  read_taken s k f q (as_short c e) = absurd (no_double_unit _ e refl)
+  read_taken s k f q (as_int c e) = absurd (no_double_unit _ e refl)
+  read_taken s k f q (as_long c e) = absurd (no_double_unit _ e refl)
+  read_taken s k f q (as_float c e) = absurd (no_double_unit _ e (float_not _))
+  read_taken s k f q (as_double c e) = absurd (no_double_unit _ e (double_not _))
+  read_taken s k f q (as_boolean c b e g) = absurd (no_double_unit _ e refl)
+  read_taken s k f q (as_char8 c e) = absurd (no_double_unit _ e refl)
+  read_taken s k f q (as_char16 c e) = absurd (no_double_unit _ e refl)
+  read_taken s k f q (as_float_unit c e) = absurd (no_double_unit _ e (float_with_not _ _))
   read_taken s k f q (as_double_unit c e) =
       let o = asked_one s k f q (ap counts_of c) in
       let one = one_mark s (f.place + 1) o.marks (o.many ∙ ap (λ (j : ℕ). marks_asked (marking_of j) []) c) o.are o.there in
-      subst IsTaken (mark-with _ _ e) (stands_taken one.0 one.1 one.2)
+      subst IsTaken (mark_with _ _ e) (stands_taken one.0 one.1 one.2)
 
-  pub asked-taken : (s : List ℕ) (k : ℕ) → value s k ≡ fine (DoubleUnit x m) → IsTaken m
+  pub asked_taken : (s : List ℕ) (k : ℕ) → value s k ≡ fine (DoubleUnit x m) → IsTaken m
   unfolding value
-  asked-taken s k e = let a = bind_fine (asked s k) (scalar_of s) e in read_taken s k a.0 a.1 (read_as s a.0 (DoubleUnit x m) a.2)
+  asked_taken s k e = let a = bind_fine (asked s k) (scalar_of s) e in read_taken s k a.0 a.1 (read_as s a.0 (DoubleUnit x m) a.2)

@@ -19,8 +19,8 @@ use Rattle.sums_pairs.specs.Pairs.{pairs, Quantity, relative, absolute, unit_of,
 use Rattle.sums.specs.Sums.{finite, is_finite, as_scalar, answer_of, answer}
 use Rattle.sums.specs.Promises.{ComesBack, adds_in, subtracts_in}
 use Rattle.sums.proofs.RuleLaws.{value_of, IsGiven, Ruled, refuses, combines, IsRule, sum_rule, difference_rule}
-use Rattle.sums.proofs.ReadLaws.{shown_of, IsRead, operand, no_operand, is_read, found, found_is, mark_of, given-mark, given_at, operand_given}
-use Rattle.sums.proofs.AnswerLaws.{answer_at, answer-first, answer-second, Agrees, sums_agree, differences_agree, Outcome, apart, tested, outcome}
+use Rattle.sums.proofs.ReadLaws.{shown_of, IsRead, operand, no_operand, is_read, found, found_is, mark_of, given_mark, given_at, operand_given}
+use Rattle.sums.proofs.AnswerLaws.{answer_at, answer_first, answer_second, Agrees, sums_agree, differences_agree, Outcome, apart, tested, outcome}
 use Rattle.sums.proofs.RefusalLaws.{is-answer}
 use Rattle.sums.proofs.UnitLaws.{same_swapped, same_units}
 
@@ -69,8 +69,8 @@ module _ (rule : Quantity → Quantity → Answer Quantity) (page : ℕ → ℕ 
           one c d q (rule c d) (is c d) g (operand_given x m c s u) (operand_given y n d t v) (sym f ∙ sym i ∙ e)
 
       go : IsRead a → IsRead b → Gives op r
-      go (no_operand h f) j = absurd (not_fine (sym (answer-first rule a b f) ∙ e))
-      go (operand x m i s f) (no_operand h g) = absurd (not_fine (sym (answer-second rule a b _ f g) ∙ e))
+      go (no_operand h f) j = absurd (not_fine (sym (answer_first rule a b f) ∙ e))
+      go (operand x m i s f) (no_operand h g) = absurd (not_fine (sym (answer_second rule a b _ f g) ∙ e))
       go (operand x m i s f) (operand y n j t g) = two x y m n s t (answer_at rule a b _ _ f g) (outcome rule page agrees op is _ _)
 
   pub comes_back : ((x y : Float) → T (fits binary64 (op x y))) → (a b r : Scalar) → answer rule a b ≡ fine r → ComesBack r
@@ -78,7 +78,7 @@ module _ (rule : Quantity → Quantity → Answer Quantity) (page : ℕ → ℕ 
   comes_back fit a b r e =
       let g = gives a b r e in
       let q = g.quantity in
-      let mark : mark_taken (mark_of q) (kind_of (unit_of q)) ≡ true = given-mark q g.is_given in
+      let mark : mark_taken (mark_of q) (kind_of (unit_of q)) ≡ true = given_mark q g.is_given in
       let held : T (fits binary64 (value_of q)) = subst (λ (z : Float). T (fits binary64 z)) (sym g.computed) (fit g.x g.y) in
       let may : writable (as_scalar q) ≡ true = rw (finite_number (value_of q) g.is_fine) mark in
       subst ComesBack (sym g.itself)
@@ -113,7 +113,7 @@ added_answer : (y : Float) (n : Mark) (b r s : Quantity) → mark_taken n (kind_
     → IsGiven r → quantity_sum b r ≡ fine s
     → answer quantity_sum (DoubleUnit y n) (as_scalar r) ≡ (guard (is_finite b && is_finite r && is_finite s) 25 0 >> fine (as_scalar s))
 added_answer y n b r s t e g f =
-    is-answer quantity_sum (adds_in pairs) sums_agree (add binary64) sum_rule y (value_of r) n (mark_of r) t (given-mark r g)
+    is-answer quantity_sum (adds_in pairs) sums_agree (add binary64) sum_rule y (value_of r) n (mark_of r) t (given_mark r g)
     ∙ rw (e, given_at r g, f) refl
 
 -- either way the test ends, there is a sum of this unit type or 25
@@ -134,9 +134,9 @@ module _ (x y : Float) (m n : Mark) (s : mark_taken m (kind_of m.unit) ≡ true)
       (answer quantity_sum (DoubleUnit y n) d ≡ refused 25 0)
       ⊎ ((z : Float) × (k : Mark) × (answer quantity_sum (DoubleUnit y n) d ≡ fine (DoubleUnit z k)) × (k.unit ≡ m.unit))
 
-  combined-back : (a b r : Quantity) → quantity_at m.unit (shown_of x m) ≡ fine a → quantity_at n.unit (shown_of y n) ≡ fine b → quantity_difference a b ≡ fine r
+  combined_back : (a b r : Quantity) → quantity_at m.unit (shown_of x m) ≡ fine a → quantity_at n.unit (shown_of y n) ≡ fine b → quantity_difference a b ≡ fine r
       → AddsBack (as_scalar r)
-  combined-back a b r i j k =
+  combined_back a b r i j k =
       let back = adds_back a b r k in
       let given = ruled_given (sub binary64) a b r (difference_rule a b) k (operand_given x m a s i) (operand_given y n b t j) in
       either_way m.unit (answer quantity_sum (DoubleUnit y n) (as_scalar r)) back.0
@@ -155,4 +155,4 @@ module _ (x y : Float) (m n : Mark) (s : mark_taken m (kind_of m.unit) ≡ true)
       go (apart h f) = absurd (not_fine (sym f ∙ sym is ∙ e))
       go (tested a b r i j k h f) =
           subst AddsBack (fine_eq (guarded (is_finite a && is_finite b && is_finite r) 25 0 (fine (as_scalar r)) (sym f ∙ sym is ∙ e)).1)
-          (combined-back a b r i j k)
+          (combined_back a b r i j k)

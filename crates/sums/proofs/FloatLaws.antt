@@ -91,16 +91,16 @@ module _ (f : Format) (a b c : ℕ) where
       let e : a - b ≡ b - a = omega arith in
       rw (and_false s, and_false t, e)
 
-  unlike-signs : (s t : Bool) → beq s t ≡ false → beq t s ≡ false → sum f s a t b c ≡ sum f t b s a c
+  unlike_signs : (s t : Bool) → beq s t ≡ false → beq t s ≡ false → sum f s a t b c ≡ sum f t b s a c
   unfolding sum
-  unlike-signs s t h k = rw (h, k) (greater s t (ltb a b) (ltb b a) refl refl)
+  unlike_signs s t h k = rw (h, k) (greater s t (ltb a b) (ltb b a) refl refl)
 
 sum_comm : (f : Format) (s : Bool) (a : ℕ) (t : Bool) (b c : ℕ) → sum f s a t b c ≡ sum f t b s a c
 unfolding sum
 sum_comm f true a true b c = ap (λ (n : ℕ). round f true n c) (add_comm a b)
 sum_comm f false a false b c = ap (λ (n : ℕ). round f false n c) (add_comm a b)
-sum_comm f true a false b c = unlike-signs f a b c true false refl refl
-sum_comm f false a true b c = unlike-signs f a b c false true refl refl
+sum_comm f true a false b c = unlike_signs f a b c true false refl refl
+sum_comm f false a true b c = unlike_signs f a b c false true refl refl
 
 pub add_swapped : (f : Format) (x y : Float) → add f x y ≡ add f y x
 unfolding add

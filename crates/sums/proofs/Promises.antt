@@ -18,24 +18,24 @@ use Rattle.sums.specs.Sums.{measured, finite, is_finite, as_scalar, answer_of, a
 use Rattle.sums.specs.Promises.{IsTaken, TakenIsWhatReadingGives, AbsolutesAreNeverAdded, EitherOrder, DifferenceAddsBack, ResultComesBack, adds_in, subtracts_in, RefusalsInOrder}
 use Rattle.sums.proofs.RuleLaws.{sum_rule, difference_rule}
 use Rattle.sums.proofs.ReadLaws.{shown_of, IsRead, operand, no_operand, is_read}
-use Rattle.sums.proofs.AnswerLaws.{answer-first, answer-second, sums_agree, differences_agree}
-use Rattle.sums.proofs.AskLaws.{asked-taken}
-use Rattle.sums.proofs.RefusalLaws.{is-answer, refuses-in-order}
+use Rattle.sums.proofs.AnswerLaws.{answer_first, answer_second, sums_agree, differences_agree}
+use Rattle.sums.proofs.AskLaws.{asked_taken}
+use Rattle.sums.proofs.RefusalLaws.{is-answer, refuses_in_order}
 use Rattle.sums.proofs.BackLaws.{comes_back, taken_back}
-use Rattle.sums.proofs.UnitLaws.{absolute-at, relative-at, swapped}
+use Rattle.sums.proofs.UnitLaws.{absolute_at_lem, relative_at_lem, swapped}
 
 pub taken_is_what_reading_gives : TakenIsWhatReadingGives
 unfolding writable is_nan fits
 taken_is_what_reading_gives = (
-  λ s k x m e. asked-taken x m s k e,
+  λ s k x m e. asked_taken x m s k e,
   λ m t. let zero = DoubleUnit (fin false 0 (pos 0)) m in (scalar_text zero, fin false 0 (pos 0), scalar_back zero t tt),
 )
 
 pub absolutes_are_never_added : AbsolutesAreNeverAdded
 unfolding quantity_sum
 absolutes_are_never_added x y m n u v s t =
-    let a = absolute-at m.unit (shown_of x m) u in
-    let b = absolute-at n.unit (shown_of y n) v in
+    let a = absolute_at_lem m.unit (shown_of x m) u in
+    let b = absolute_at_lem n.unit (shown_of y n) v in
     is-answer quantity_sum (adds_in pairs) sums_agree (add binary64) sum_rule x y m n s t ∙ rw (a.2, b.2) refl
 
 pub either_order : EitherOrder
@@ -56,8 +56,8 @@ either_order x y m n u v = go (mark_taken m (kind_of m.unit)) (mark_taken n (kin
         ≡ ((guard c 17 0 >> fine (record { unit = n.unit; number = shown_of y n })) >>= λ j.
         (guard b 17 0 >> fine (record { unit = m.unit; number = shown_of x m })) >>= λ i. answer_of quantity_sum j i)
     go true true =
-        let a = absolute-at m.unit (shown_of x m) u in
-        let b = relative-at n.unit (shown_of y n) v in
+        let a = absolute_at_lem m.unit (shown_of x m) u in
+        let b = relative_at_lem n.unit (shown_of y n) v in
         rw (a.2, b.2) (ordered a.0 b.0 a.1 b.1)
     go true false = refl
     go false true = refl
@@ -73,8 +73,8 @@ difference_adds_back x y m n d e = go (is_read (DoubleUnit x m)) (is_read (Doubl
     go : IsRead (DoubleUnit x m) → IsRead (DoubleUnit y n)
         → (answer quantity_sum (DoubleUnit y n) d ≡ refused 25 0)
         ⊎ ((z : Float) × (k : Mark) × (answer quantity_sum (DoubleUnit y n) d ≡ fine (DoubleUnit z k)) × (k.unit ≡ m.unit))
-    go (no_operand h f) j = absurd (not_fine (sym (answer-first quantity_difference (DoubleUnit x m) (DoubleUnit y n) f) ∙ e))
-    go (operand x' m' i s f) (no_operand h g) = absurd (not_fine (sym (answer-second quantity_difference (DoubleUnit x m) (DoubleUnit y n) _ f g) ∙ e))
+    go (no_operand h f) j = absurd (not_fine (sym (answer_first quantity_difference (DoubleUnit x m) (DoubleUnit y n) f) ∙ e))
+    go (operand x' m' i s f) (no_operand h g) = absurd (not_fine (sym (answer_second quantity_difference (DoubleUnit x m) (DoubleUnit y n) _ f g) ∙ e))
     go (operand x' m' i s f) (operand y' n' j t g) = taken_back x y m n (subst IsTaken (same_mark i) s) (subst IsTaken (same_mark j) t) d e
 
 pub result_comes_back : ResultComesBack
@@ -83,6 +83,6 @@ result_comes_back a b r (inr e) = comes_back quantity_difference (subtracts_in p
 
 pub refusals_in_order : RefusalsInOrder
 refusals_in_order = (
-  refuses-in-order quantity_sum (adds_in pairs) sums_agree (add binary64) sum_rule,
-  refuses-in-order quantity_difference (subtracts_in pairs) differences_agree (sub binary64) difference_rule,
+  refuses_in_order quantity_sum (adds_in pairs) sums_agree (add binary64) sum_rule,
+  refuses_in_order quantity_difference (subtracts_in pairs) differences_agree (sub binary64) difference_rule,
 )

@@ -130,9 +130,9 @@ kind_of_lem (relative p x) on = on.relative_kind
 kind_of_lem (absolute p x) on = on.absolute_kind
 
 module _ (q : Quantity) (g : IsGiven q) where
-  pub given-mark : mark_taken (mark_of q) (kind_of (unit_of q)) ≡ true
+  pub given_mark : mark_taken (mark_of q) (kind_of (unit_of q)) ≡ true
   unfolding mark_taken
-  given-mark = rw (kind_of_lem q g.on_page) g.display
+  given_mark = rw (kind_of_lem q g.on_page) g.display
 
 pub given_at : (q : Quantity) → IsGiven q → quantity_at (unit_of q) (number_of q) ≡ fine q
 given_at (relative p x) g = g.on_page.relative_at x

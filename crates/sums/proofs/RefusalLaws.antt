@@ -21,7 +21,7 @@ use Rattle.sums.specs.Sums.{Measured, measured, finite, is_finite, as_scalar, an
 use Rattle.sums.specs.Promises.{NoOperand, Refuses}
 use Rattle.sums.proofs.RuleLaws.{value_of, Ruled, refuses, combines, IsRule}
 use Rattle.sums.proofs.ReadLaws.{shown_of, IsRead, operand, no_operand, is_read, found, found_is}
-use Rattle.sums.proofs.AnswerLaws.{answer_at, answer-first, answer-second, Agrees, Outcome, apart, tested, outcome}
+use Rattle.sums.proofs.AnswerLaws.{answer_at, answer_first, answer_second, Agrees, Outcome, apart, tested, outcome}
 
 -- equal refusals have equal numbers and places
 same_number : {A : Type 0} {k l p q : ℕ} → ◌≡◌ {A = Answer A} (refused k p) (refused l q) → (k ≡ l) × (p ≡ q)
@@ -29,8 +29,8 @@ same_number e = (cc, cc)
 
 -- of a test that guards an answer: refused, it has failed; and failed, it is refused
 module _ {A : Type 0} (b : Bool) (a : A) where
-  guard-failed : (guard b 25 0 >> fine a) ≡ refused 25 0 → b ≡ false
-  guard-failed e = go b e
+  guard_failed : (guard b 25 0 >> fine a) ≡ refused 25 0 → b ≡ false
+  guard_failed e = go b e
     where
       go : (c : Bool) → (guard c 25 0 >> fine a) ≡ refused 25 0 → c ≡ false
       go true f = absurd (not_fine (sym f))
@@ -94,7 +94,7 @@ module _ (rule : Quantity → Quantity → Answer Quantity) (page : ℕ → ℕ 
         where
           go : Outcome rule page left right → finite x && finite y && finite (op x y) ≡ false
           go (apart h f) = absurd (false≢true (sym h ∙ in-page))
-          go (tested a b r i j k h f) = sym (same_tests left right a b r i j k) ∙ guard-failed (is_finite a && is_finite b && is_finite r) (as_scalar r) (sym f ∙ sym is-answer ∙ e)
+          go (tested a b r i j k h f) = sym (same_tests left right a b r i j k) ∙ guard_failed (is_finite a && is_finite b && is_finite r) (as_scalar r) (sym f ∙ sym is-answer ∙ e)
 
       refused-as-infinite : finite x && finite y && finite (op x y) ≡ false → answer rule (DoubleUnit x m) (DoubleUnit y n) ≡ refused 25 0
       refused-as-infinite e = go (outcome rule page agrees op is left right)
@@ -118,13 +118,13 @@ module _ (rule : Quantity → Quantity → Answer Quantity) (page : ℕ → ℕ 
           is-listed 25 (guard_number (is_finite x && is_finite y && is_finite r) (as_scalar r) k p (sym f ∙ sym i ∙ e)) refl
 
       go : IsRead a → IsRead b → (among k (17 ∷ 24 ∷ 25 ∷ []) ≡ true) × (p ≡ 0)
-      go (no_operand h f) j = is-listed 17 (same_number (sym (answer-first rule a b f) ∙ e)) refl
-      go (operand x m i s f) (no_operand h g) = is-listed 17 (same_number (sym (answer-second rule a b _ f g) ∙ e)) refl
+      go (no_operand h f) j = is-listed 17 (same_number (sym (answer_first rule a b f) ∙ e)) refl
+      go (operand x m i s f) (no_operand h g) = is-listed 17 (same_number (sym (answer_second rule a b _ f g) ∙ e)) refl
       go (operand x m i s f) (operand y n j s' g) = two _ _ (answer_at rule a b _ _ f g) (outcome rule page agrees op is _ _)
 
   -- 17 exactly where one of the two is no operand
-  no-operand : (a b : Scalar) → answer rule a b ≡ refused 17 0 → NoOperand a ⊎ NoOperand b
-  no-operand a b e = go (is_read a) (is_read b)
+  no_operand_lem : (a b : Scalar) → answer rule a b ≡ refused 17 0 → NoOperand a ⊎ NoOperand b
+  no_operand_lem a b e = go (is_read a) (is_read b)
     where
       two : (m n : Measured) → answer rule a b ≡ answer_of rule m n → Outcome rule page m n → ⊥
       two m n i (apart h f) = let z : ◌≡◌ {A = ℕ} 24 17 = (same_number (sym f ∙ sym i ∙ e)).0 in omega arith
@@ -140,15 +140,15 @@ module _ (rule : Quantity → Quantity → Answer Quantity) (page : ℕ → ℕ 
   seventeen a b e = go (is_read a) (is_read b) e
     where
       go : IsRead a → IsRead b → NoOperand a ⊎ NoOperand b → answer rule a b ≡ refused 17 0
-      go (no_operand h f) j o = answer-first rule a b f
-      go (operand x m i s f) (no_operand h g) o = answer-second rule a b _ f g
+      go (no_operand h f) j o = answer_first rule a b f
+      go (operand x m i s f) (no_operand h g) o = answer_second rule a b _ f g
       go (operand x m i s f) (operand y n j s' g) (inl o) = absurd (o x m i s)
       go (operand x m i s f) (operand y n j s' g) (inr o) = absurd (o y n j s')
 
-  pub refuses-in-order : Refuses (answer rule) page op
-  refuses-in-order =
+  pub refuses_in_order : Refuses (answer rule) page op
+  refuses_in_order =
       record {
-        first = λ a b. (no-operand a b, seventeen a b);
+        first = λ a b. (no_operand_lem a b, seventeen a b);
         second = λ x y m n s t. (refused-by-page x y m n s t, page-refuses x y m n s t);
         third = λ x y m n s t h. (not-all-finite x y m n s t h, refused-as-infinite x y m n s t h);
         other = listed;

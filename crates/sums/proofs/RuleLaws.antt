@@ -50,8 +50,8 @@ abbrev pub IsRule : (Float → Float → Float) → (Quantity → Quantity → A
 IsRule op rule = (a b : Quantity) → Ruled op a b (rule a b)
 
 module _ (op : Float → Float → Float) (a b : Quantity) where
-  one-pair : (p q : Pair) (r : Quantity) → value_of r ≡ op (value_of a) (value_of b) → (IsGiven a → IsGiven b → IsGiven r) → Ruled op a b (of_one_pair p q r)
-  one-pair p q r e g = go (same_pair p q)
+  one_pair : (p q : Pair) (r : Quantity) → value_of r ≡ op (value_of a) (value_of b) → (IsGiven a → IsGiven b → IsGiven r) → Ruled op a b (of_one_pair p q r)
+  one_pair p q r e g = go (same_pair p q)
     where
       go : (same : Bool) → Ruled op a b (guard same 24 0 >> fine r)
       go true = combines r e g
@@ -59,16 +59,16 @@ module _ (op : Float → Float → Float) (a b : Quantity) where
 
 pub sum_rule : IsRule (add binary64) quantity_sum
 unfolding quantity_sum
-sum_rule (relative p x) (relative q y) = one-pair _ _ _ p q _ refl (λ g h. shown_alike (relative p x) (relative p) _ g refl refl refl)
-sum_rule (absolute p x) (relative q y) = one-pair _ _ _ p q _ refl (λ g h. shown_alike (absolute p x) (absolute p) _ g refl refl refl)
-sum_rule (relative p x) (absolute q y) = one-pair _ _ _ p q _ refl (λ g h. shown_alike (absolute q y) (absolute q) _ h refl refl refl)
+sum_rule (relative p x) (relative q y) = one_pair _ _ _ p q _ refl (λ g h. shown_alike (relative p x) (relative p) _ g refl refl refl)
+sum_rule (absolute p x) (relative q y) = one_pair _ _ _ p q _ refl (λ g h. shown_alike (absolute p x) (absolute p) _ g refl refl refl)
+sum_rule (relative p x) (absolute q y) = one_pair _ _ _ p q _ refl (λ g h. shown_alike (absolute q y) (absolute q) _ h refl refl refl)
 sum_rule (absolute p x) (absolute q y) = refuses
 
 pub difference_rule : IsRule (sub binary64) quantity_difference
 unfolding quantity_difference
-difference_rule (relative p x) (relative q y) = one-pair _ _ _ p q _ refl (λ g h. shown_alike (relative p x) (relative p) _ g refl refl refl)
-difference_rule (absolute p x) (relative q y) = one-pair _ _ _ p q _ refl (λ g h. shown_alike (absolute p x) (absolute p) _ g refl refl refl)
-difference_rule (absolute p x) (absolute q y) = one-pair _ _ _ p q _ refl (λ g h. shown_by_zero p _ g.on_page refl)
+difference_rule (relative p x) (relative q y) = one_pair _ _ _ p q _ refl (λ g h. shown_alike (relative p x) (relative p) _ g refl refl refl)
+difference_rule (absolute p x) (relative q y) = one_pair _ _ _ p q _ refl (λ g h. shown_alike (absolute p x) (absolute p) _ g refl refl refl)
+difference_rule (absolute p x) (absolute q y) = one_pair _ _ _ p q _ refl (λ g h. shown_by_zero p _ g.on_page refl)
 difference_rule (relative p x) (absolute q y) = refuses
 
 -- by a strict operation, whose finite results have finite operands, so is the rule

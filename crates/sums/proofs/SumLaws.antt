@@ -18,7 +18,7 @@ use Rattle.sums_quantities.specs.declared.shown.Shown.{Shown}
 use Rattle.sums_pairs.specs.Pairs.{Quantity, quantity_at}
 use Rattle.sums_pairs.specs.Views.{combined}
 use Rattle.sums.specs.Sums.{Measured, measured, finite, is_finite, as_scalar, answer_of, answer}
-use Rattle.sums.specs.Views.{read_of, combinedOf, shown_as, resulting}
+use Rattle.sums.specs.Views.{read_of, combined_of, shown_as, resulting}
 use Rattle.sums.proofs.RuleLaws.{IsRule, Strict, rule_strict}
 
 -- a scalar of any case but a double with its mark is refused by 17
@@ -39,28 +39,28 @@ no_double (NotNumber c) h = refl
 
 -- so is one whose mark is not taken; and with a mark that is, it is the quantity of its unit type
 module _ (x : Float) (m : Mark) where
-  pub mark-untaken : mark_taken m (kind_of m.unit) ≡ false → read_of (DoubleUnit x m) ≡ refused 17 0
+  pub mark_untaken : mark_taken m (kind_of m.unit) ≡ false → read_of (DoubleUnit x m) ≡ refused 17 0
   unfolding read_of measured
-  mark-untaken e = rw e
+  mark_untaken e = rw e
 
-  pub mark-taken : mark_taken m (kind_of m.unit) ≡ true
+  pub mark_taken_lem : mark_taken m (kind_of m.unit) ≡ true
       → read_of (DoubleUnit x m) ≡ fine (quantity_at m.unit (record { value = x; display = m.display }))
   unfolding read_of measured
-  mark-taken e = rw e
+  mark_taken_lem e = rw e
 
 -- what is combined, as far as each scalar is a quantity
 module _ (rule : Quantity → Quantity → Answer Quantity) (a b : Scalar) where
-  pub first-refused : (k p : ℕ) → read_of a ≡ refused k p → combinedOf rule a b ≡ refused k p
-  unfolding combinedOf
-  first-refused k p e = rw e
+  pub first_refused : (k p : ℕ) → read_of a ≡ refused k p → combined_of rule a b ≡ refused k p
+  unfolding combined_of
+  first_refused k p e = rw e
 
   module _ (x : Answer Quantity) (is : read_of a ≡ fine x) where
-    pub second-refused : (k p : ℕ) → read_of b ≡ refused k p → combinedOf rule a b ≡ refused k p
-    unfolding combinedOf
+    pub second-refused : (k p : ℕ) → read_of b ≡ refused k p → combined_of rule a b ≡ refused k p
+    unfolding combined_of
     second-refused k p e = rw (is, e)
 
-    pub both-known : (y : Answer Quantity) → read_of b ≡ fine y → combinedOf rule a b ≡ combined rule x y
-    unfolding combinedOf
+    pub both-known : (y : Answer Quantity) → read_of b ≡ fine y → combined_of rule a b ≡ combined rule x y
+    unfolding combined_of
     both-known y e = rw (is, e)
 
 -- a test that passes wherever another does adds nothing to it
@@ -71,18 +71,18 @@ implied false false h = refl
 
 -- by a rule whose operation is strict the answer is what was combined, tested alone
 module _ (rule : Quantity → Quantity → Answer Quantity) (op : Float → Float → Float) (is : IsRule op rule) (strict : Strict op) where
-  tested-once : (x y : Quantity) (o : Answer Quantity) → rule x y ≡ o
+  tested_once : (x y : Quantity) (o : Answer Quantity) → rule x y ≡ o
       → resulting o ≡ (o >>= λ r. guard (is_finite x && is_finite y && is_finite r) 25 0 >> fine (as_scalar r))
   unfolding resulting
-  tested-once x y (refused k p) e = refl
-  tested-once x y (fine r) e = rw (implied (is_finite x && is_finite y) (is_finite r) (rule_strict op strict x y r (is x y) e))
+  tested_once x y (refused k p) e = refl
+  tested_once x y (fine r) e = rw (implied (is_finite x && is_finite y) (is_finite r) (rule_strict op strict x y r (is x y) e))
 
-  one-test : (m n : Answer Quantity) → resulting (combined rule m n)
+  one_test : (m n : Answer Quantity) → resulting (combined rule m n)
       ≡ (m >>= λ x. n >>= λ y. rule x y >>= λ r. guard (is_finite x && is_finite y && is_finite r) 25 0 >> fine (as_scalar r))
   unfolding resulting
-  one-test (refused k p) n = refl
-  one-test (fine x) (refused k p) = refl
-  one-test (fine x) (fine y) = tested-once x y (rule x y) refl
+  one_test (refused k p) n = refl
+  one_test (fine x) (refused k p) = refl
+  one_test (fine x) (fine y) = tested_once x y (rule x y) refl
 
   both_read : (m n : Answer Measured)
       → resulting ((m >>= λ u. fine (quantity_at u.unit u.number)) >>= λ x.
@@ -91,10 +91,10 @@ module _ (rule : Quantity → Quantity → Answer Quantity) (op : Float → Floa
   unfolding resulting
   both_read (refused k p) n = refl
   both_read (fine u) (refused k p) = refl
-  both_read (fine u) (fine v) = one-test (quantity_at u.unit u.number) (quantity_at v.unit v.number)
+  both_read (fine u) (fine v) = one_test (quantity_at u.unit u.number) (quantity_at v.unit v.number)
 
-  pub answered : (a b : Scalar) (o : Answer Quantity) → o ≡ combinedOf rule a b → resulting o ≡ answer rule a b
-  unfolding answer combinedOf read_of
+  pub answered : (a b : Scalar) (o : Answer Quantity) → o ≡ combined_of rule a b → resulting o ≡ answer rule a b
+  unfolding answer combined_of read_of
   answered a b o e = ap resulting e ∙ both_read (measured a) (measured b)
 
 -- a number as a scalar, where it is finite and where it is not
@@ -103,7 +103,7 @@ module _ (u : ℕ) (x : Shown) where
   unfolding shown_as
   not_finite e = rw e
 
-  pub is-finite : finite x.value ≡ true
+  pub is_finite_lem : finite x.value ≡ true
       → shown_as u x ≡ fine (DoubleUnit x.value (record { unit = u; currency = 0; display = x.display }))
   unfolding shown_as
-  is-finite e = rw e
+  is_finite_lem e = rw e

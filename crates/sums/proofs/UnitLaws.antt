@@ -37,13 +37,13 @@ is_relative_lem (fine (absolute p x)) e = absurd (false≢true e)
 is_relative_lem (refused k p) e = absurd (false≢true e)
 
 module _ (u : ℕ) (s : Shown) where
-  pub absolute-at : Absolute u → (p : Pair) × (x : Shown) × (quantity_at u s ≡ fine (absolute p x))
+  pub absolute_at_lem : Absolute u → (p : Pair) × (x : Shown) × (quantity_at u s ≡ fine (absolute p x))
   unfolding all_pass quantity_in
-  absolute-at h = is_absolute_lem (quantity_at u s) (pass_among (λ k. is_absolute (quantity_at k s)) (map (λ (p : Pair). p.absolute_unit) pairs) u refl h)
+  absolute_at_lem h = is_absolute_lem (quantity_at u s) (pass_among (λ k. is_absolute (quantity_at k s)) (map (λ (p : Pair). p.absolute_unit) pairs) u refl h)
 
-  pub relative-at : Relative u → (p : Pair) × (x : Shown) × (quantity_at u s ≡ fine (relative p x))
+  pub relative_at_lem : Relative u → (p : Pair) × (x : Shown) × (quantity_at u s ≡ fine (relative p x))
   unfolding all_pass quantity_in
-  relative-at h = is_relative_lem (quantity_at u s) (pass_among (λ k. is_relative (quantity_at k s)) (map (λ (p : Pair). p.relative_unit) pairs) u refl h)
+  relative_at_lem h = is_relative_lem (quantity_at u s) (pass_among (λ k. is_relative (quantity_at k s)) (map (λ (p : Pair). p.relative_unit) pairs) u refl h)
 
 -- pairs are the same in either order
 eqb_swapped : (a b : ℕ) → eqb a b ≡ eqb b a

@@ -24,19 +24,19 @@ read_of a = do
 
 -- What two scalars were read as, combined by a rule.
 module _ (rule : Quantity → Quantity → Answer Quantity) where
-  abbrev pub combinedAs : Both → Answer Quantity
-  combinedAs (Are x y) = combined rule (seen x) (seen y)
-  combinedAs Neither = refused 17 0
+  abbrev pub combined_as : Both → Answer Quantity
+  combined_as (Are x y) = combined rule (seen x) (seen y)
+  combined_as Neither = refused 17 0
 
-  unfoldable pub combinedOf : Scalar → Scalar → Answer Quantity
-  combinedOf a b = do
+  unfoldable pub combined_of : Scalar → Scalar → Answer Quantity
+  combined_of a b = do
     x ← read_of a
     y ← read_of b
     combined rule x y
 
 -- These are what the two scalars were read as, whatever the rule.
 abbrev pub AreRead : Scalar → Scalar → Both → Type 0
-AreRead a b r = (rule : Quantity → Quantity → Answer Quantity) → combinedAs rule r ≡ combinedOf rule a b
+AreRead a b r = (rule : Quantity → Quantity → Answer Quantity) → combined_as rule r ≡ combined_of rule a b
 
 -- A number of this unit type as a scalar, where it is finite (25); and so what was combined.
 unfoldable pub shown_as : ℕ → Shown → Answer Scalar

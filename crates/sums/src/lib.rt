@@ -4,7 +4,7 @@ ghost use Rattle.std.specs.Prelude.{◌≡◌};
 ghost use Rattle.sim0mq.specs.Answer.{refused};
 ghost use Rattle.asking_scalars.specs.Scalars.{valued};
 ghost use Rattle.sums_pairs.specs.Views.{seen};
-ghost use Rattle.sums.specs.Sums.{finite as finiteOf, sum_of, difference_of};
+ghost use Rattle.sums.specs.Sums.{finite as finite_of, sum_of, difference_of};
 ghost use Rattle.sums.specs.Views.{known_as, read_of, AreRead, shown_as, resulting};
 
 use asking_scalars::answer::Value;
@@ -69,7 +69,7 @@ fn refuse(number: u32) -> Value
 
 // Whether x is a number and no infinity: an infinity less itself is a NaN, and a NaN differs from itself.
 fn finite(x: f64) -> bool
-    ensures { result ≡ finiteOf x }
+    ensures { result ≡ finite_of x }
 {
     let d = x - x;
     d == d

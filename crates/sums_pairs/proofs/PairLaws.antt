@@ -76,14 +76,14 @@ one_of_lem test k (n ∷ l) t (inl h) e = ap test h ∙ (and_true (test k) (all_
 one_of_lem test k (n ∷ l) t (inr h) e = one_of_lem test n l t h (and_true (test k) (all_pass test (n ∷ l)) e).1
 
 module _ (rule : Q.Quantity → Q.Quantity → Answer Q.Quantity) where
-  abbrev pub refusesAt : Answer Q.Quantity → Shown → ℕ → Bool
-  refusesAt a x t = is_refused (combined rule a (seen_by x t))
+  abbrev pub refuses_at : Answer Q.Quantity → Shown → ℕ → Bool
+  refuses_at a x t = is_refused (combined rule a (seen_by x t))
 
-  pub not-combined : (a b q : Quantity) (k : ℕ) (l : List ℕ) → a ≡ q → OneOf (k ∷ l) (tag_of the_type b)
-      → all_pass (refusesAt (seen q) (number_in b)) (k ∷ l) ≡ true → refused 24 0 ≡ combined rule (seen a) (seen b)
-  not-combined a b q k l e h g =
+  pub not_combined : (a b q : Quantity) (k : ℕ) (l : List ℕ) → a ≡ q → OneOf (k ∷ l) (tag_of the_type b)
+      → all_pass (refuses_at (seen q) (number_in b)) (k ∷ l) ≡ true → refused 24 0 ≡ combined rule (seen a) (seen b)
+  not_combined a b q k l e h g =
       let x = number_in b in
       let t = tag_of the_type b in
       sym
       (ap₂ (combined rule) (ap seen e) (seen_by_lem b)
-      ∙ is_refused_lem (combined rule (seen q) (seen_by x t)) (one_of_lem (refusesAt (seen q) x) k l t h g))
+      ∙ is_refused_lem (combined rule (seen q) (seen_by x t)) (one_of_lem (refuses_at (seen q) x) k l t h g))

@@ -1,6 +1,6 @@
 // Angle and Direction: the manual's sums of them, and no other.
 ghost use Rattle.std.specs.Prelude.{◌≡◌};
-ghost use Rattle.sums_quantities.specs.Numbers.{plus as plusOf, less as less_of};
+ghost use Rattle.sums_quantities.specs.Numbers.{plus as plus_of, less as less_of};
 
 use crate::shown::{Shown, less, plus};
 
@@ -15,14 +15,14 @@ pub struct Direction(pub Shown);
 impl Angle {
     // The sum of both, shown as the first is.
     pub fn plus(self, b: Angle) -> Angle
-        ensures { result.0 ≡ plusOf self.0 b.0 self.0.display }
+        ensures { result.0 ≡ plus_of self.0 b.0 self.0.display }
     {
         Angle(plus(self.0, b.0, self.0.display))
     }
 
     // The direction that both make, shown as that direction is.
     pub fn plus_direction(self, b: Direction) -> Direction
-        ensures { result.0 ≡ plusOf self.0 b.0 b.0.display }
+        ensures { result.0 ≡ plus_of self.0 b.0 b.0.display }
     {
         Direction(plus(self.0, b.0, b.0.display))
     }
@@ -38,7 +38,7 @@ impl Angle {
 impl Direction {
     // The direction that both make, shown as the first is.
     pub fn plus(self, b: Angle) -> Direction
-        ensures { result.0 ≡ plusOf self.0 b.0 self.0.display }
+        ensures { result.0 ≡ plus_of self.0 b.0 self.0.display }
     {
         Direction(plus(self.0, b.0, self.0.display))
     }

@@ -1,6 +1,6 @@
 // Duration and Time: the manual's sums of them, and no other.
 ghost use Rattle.std.specs.Prelude.{◌≡◌};
-ghost use Rattle.sums_quantities.specs.Numbers.{plus as plusOf, less as less_of};
+ghost use Rattle.sums_quantities.specs.Numbers.{plus as plus_of, less as less_of};
 
 use crate::shown::{Shown, less, plus};
 
@@ -15,14 +15,14 @@ pub struct Time(pub Shown);
 impl Duration {
     // The sum of both, shown as the first is.
     pub fn plus(self, b: Duration) -> Duration
-        ensures { result.0 ≡ plusOf self.0 b.0 self.0.display }
+        ensures { result.0 ≡ plus_of self.0 b.0 self.0.display }
     {
         Duration(plus(self.0, b.0, self.0.display))
     }
 
     // The time that both make, shown as that time is.
     pub fn plus_time(self, b: Time) -> Time
-        ensures { result.0 ≡ plusOf self.0 b.0 b.0.display }
+        ensures { result.0 ≡ plus_of self.0 b.0 b.0.display }
     {
         Time(plus(self.0, b.0, b.0.display))
     }
@@ -38,7 +38,7 @@ impl Duration {
 impl Time {
     // The time that both make, shown as the first is.
     pub fn plus(self, b: Duration) -> Time
-        ensures { result.0 ≡ plusOf self.0 b.0 self.0.display }
+        ensures { result.0 ≡ plus_of self.0 b.0 self.0.display }
     {
         Time(plus(self.0, b.0, self.0.display))
     }

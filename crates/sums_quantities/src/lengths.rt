@@ -1,6 +1,6 @@
 // Length and Position: the manual's sums of them, and no other.
 ghost use Rattle.std.specs.Prelude.{◌≡◌};
-ghost use Rattle.sums_quantities.specs.Numbers.{plus as plusOf, less as less_of};
+ghost use Rattle.sums_quantities.specs.Numbers.{plus as plus_of, less as less_of};
 
 use crate::shown::{Shown, less, plus};
 
@@ -15,14 +15,14 @@ pub struct Position(pub Shown);
 impl Length {
     // The sum of both, shown as the first is.
     pub fn plus(self, b: Length) -> Length
-        ensures { result.0 ≡ plusOf self.0 b.0 self.0.display }
+        ensures { result.0 ≡ plus_of self.0 b.0 self.0.display }
     {
         Length(plus(self.0, b.0, self.0.display))
     }
 
     // The position that both make, shown as that position is.
     pub fn plus_position(self, b: Position) -> Position
-        ensures { result.0 ≡ plusOf self.0 b.0 b.0.display }
+        ensures { result.0 ≡ plus_of self.0 b.0 b.0.display }
     {
         Position(plus(self.0, b.0, b.0.display))
     }
@@ -38,7 +38,7 @@ impl Length {
 impl Position {
     // The position that both make, shown as the first is.
     pub fn plus(self, b: Length) -> Position
-        ensures { result.0 ≡ plusOf self.0 b.0 self.0.display }
+        ensures { result.0 ≡ plus_of self.0 b.0 self.0.display }
     {
         Position(plus(self.0, b.0, self.0.display))
     }

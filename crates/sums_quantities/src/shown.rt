@@ -1,6 +1,6 @@
 // A number with its display code, and the one addition and the one subtraction of them.
 ghost use Rattle.std.specs.Prelude.{◌≡◌};
-ghost use Rattle.sums_quantities.specs.Numbers.{plus as plusOf, less as less_of};
+ghost use Rattle.sums_quantities.specs.Numbers.{plus as plus_of, less as less_of};
 
 #[derive(Drop)]
 pub struct Shown {
@@ -10,7 +10,7 @@ pub struct Shown {
 
 // a + b, rounded once, shown by d.
 pub fn plus(a: Shown, b: Shown, d: u8) -> Shown
-    ensures { result ≡ plusOf a b d }
+    ensures { result ≡ plus_of a b d }
 {
     Shown {
         value: a.value + b.value,

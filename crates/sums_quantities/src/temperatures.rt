@@ -1,6 +1,6 @@
 // Temperature and AbsoluteTemperature: the manual's sums of them, and no other.
 ghost use Rattle.std.specs.Prelude.{◌≡◌};
-ghost use Rattle.sums_quantities.specs.Numbers.{plus as plusOf, less as less_of};
+ghost use Rattle.sums_quantities.specs.Numbers.{plus as plus_of, less as less_of};
 
 use crate::shown::{Shown, less, plus};
 
@@ -15,14 +15,14 @@ pub struct AbsoluteTemperature(pub Shown);
 impl Temperature {
     // The sum of both, shown as the first is.
     pub fn plus(self, b: Temperature) -> Temperature
-        ensures { result.0 ≡ plusOf self.0 b.0 self.0.display }
+        ensures { result.0 ≡ plus_of self.0 b.0 self.0.display }
     {
         Temperature(plus(self.0, b.0, self.0.display))
     }
 
     // The absolute temperature that both make, shown as that absolute temperature is.
     pub fn plus_absolute_temperature(self, b: AbsoluteTemperature) -> AbsoluteTemperature
-        ensures { result.0 ≡ plusOf self.0 b.0 b.0.display }
+        ensures { result.0 ≡ plus_of self.0 b.0 b.0.display }
     {
         AbsoluteTemperature(plus(self.0, b.0, b.0.display))
     }
@@ -38,7 +38,7 @@ impl Temperature {
 impl AbsoluteTemperature {
     // The absolute temperature that both make, shown as the first is.
     pub fn plus(self, b: Temperature) -> AbsoluteTemperature
-        ensures { result.0 ≡ plusOf self.0 b.0 self.0.display }
+        ensures { result.0 ≡ plus_of self.0 b.0 self.0.display }
     {
         AbsoluteTemperature(plus(self.0, b.0, self.0.display))
     }

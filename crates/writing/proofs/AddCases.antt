@@ -11,7 +11,7 @@ use Rattle.sim0mq.specs.Answer.{Answer, fine, refused}
 use Rattle.sim0mq.specs.Message.{limit}
 use Rattle.sim0mq.proofs.Answers.{and_true}
 use Rattle.reading_payload.specs.Parts.{payload_steps}
-use Rattle.reading_payload.proofs.PayloadCases.{alone-refused, alone-accepted}
+use Rattle.reading_payload.proofs.PayloadCases.{alone_refused, alone_accepted}
 use Rattle.sim0mq_kinds.specs.declared.Scalar.{Scalar}
 use Rattle.writing_encoding.specs.Scalars.{scalar_text, writable, scalar_given}
 use Rattle.sim0mq.specs.Table.{placed}
@@ -25,9 +25,9 @@ use Rattle.sim0mq_buffers.proofs.PlaceLaws.{front_stands}
 
 -- a state that takes a field: as many as declared were added, closed, too much written, and whether there is room
 module _ (w : Writer) (room : ℕ) where
-  pub takes-full : w.declared ≤ w.added → false ≡ takes w room
+  pub takes_full : w.declared ≤ w.added → false ≡ takes w room
   unfolding takes
-  takes-full h = sym (simp (le-ltb w.added w.declared h))
+  takes_full h = sym (simp (le-ltb w.added w.declared h))
 
   module _ (some : w.added < w.declared) where
     pub takes-closed : w.closed ≡ true → false ≡ takes w room
@@ -43,9 +43,9 @@ module _ (w : Writer) (room : ℕ) where
     takes-room e h = sym (simp (lt-ltb w.added w.declared some, e, le-leb w.written limit h))
 
   -- what such a state is
-  pub takes-within : takes w room ≡ true → (w.added < w.declared) × (w.written ≤ limit) × (w.written ≤ room)
+  pub takes_within : takes w room ≡ true → (w.added < w.declared) × (w.written ≤ limit) × (w.written ≤ room)
   unfolding takes
-  takes-within e =
+  takes_within e =
       let a = and_true (ltb w.added w.declared) _ e in
       let b = and_true (not w.closed) _ a.1 in
       let d = and_true (leb w.written limit) (leb w.written room) b.1 in
@@ -53,31 +53,31 @@ module _ (w : Writer) (room : ℕ) where
 
 -- a text after what is written: the message is too long, there is no room, it fits
 module _ (written room : ℕ) (text : List ℕ) (short : written ≤ limit) where
-  pub fitting-long : limit - written < length text → fitting written room text ≡ refused 8 0
+  pub fitting_long : limit - written < length text → fitting written room text ≡ refused 8 0
   unfolding fitting
-  fitting-long h = simp (lt-leb (written + length text) limit (omega arith))
+  fitting_long h = simp (lt-leb (written + length text) limit (omega arith))
 
-  pub fitting-full : length text ≤ limit - written → room - written < length text → fitting written room text ≡ refused 14 0
+  pub fitting_full : length text ≤ limit - written → room - written < length text → fitting written room text ≡ refused 14 0
   unfolding fitting
-  fitting-full h k = simp (le-leb (written + length text) limit (omega arith), lt-leb (written + length text) room (omega arith))
+  fitting_full h k = simp (le-leb (written + length text) limit (omega arith), lt-leb (written + length text) room (omega arith))
 
-  pub fitting-fine : length text ≤ limit - written → length text ≤ room - written → written ≤ room → fitting written room text ≡ fine text
+  pub fitting_fine : length text ≤ limit - written → length text ≤ room - written → written ≤ room → fitting written room text ≡ fine text
   unfolding fitting
-  fitting-fine h k l = simp (le-leb (written + length text) limit (omega arith), le-leb (written + length text) room (omega arith))
+  fitting_fine h k l = simp (le-leb (written + length text) limit (omega arith), le-leb (written + length text) room (omega arith))
 
 -- adding: the state does not take a field, the field is refused, the field is to fit
 module _ (w : Writer) (room : ℕ) (g : Given) where
-  pub adding-state : takes w room ≡ false → adding w room g ≡ refused 15 0
+  pub adding_state : takes w room ≡ false → adding w room g ≡ refused 15 0
   unfolding adding
-  adding-state e = simp e
+  adding_state e = simp e
 
-  pub adding-field : (k p : ℕ) → takes w room ≡ true → field_given g ≡ refused k p → adding w room g ≡ refused k p
+  pub adding_field : (k p : ℕ) → takes w room ≡ true → field_given g ≡ refused k p → adding w room g ≡ refused k p
   unfolding adding
-  adding-field k p e q = simp (e, q)
+  adding_field k p e q = simp (e, q)
 
-  pub adding-text : (l : List ℕ) → takes w room ≡ true → field_given g ≡ fine l → adding w room g ≡ fitting w.written room l
+  pub adding_text : (l : List ℕ) → takes w room ≡ true → field_given g ≡ fine l → adding w room g ≡ fitting w.written room l
   unfolding adding
-  adding-text l e q = simp (e, q)
+  adding_text l e q = simp (e, q)
 
 -- what a call tells of an answer, it tells of the one that is the same
 pub told_as : (w : Writer) (out last : List ℕ) (r : Wrote) (a b : Answer (List ℕ)) → a ≡ b → r ≡ after_adding w b → last ≡ buffer_after out w.written b
@@ -86,13 +86,13 @@ told_as w out last r a b e said left = (said ∙ sym (ap (after_adding w) e), le
 
 -- an encoded field, judged as a payload of one field
 module _ (l : List ℕ) where
-  pub encoded-refused : (k p : ℕ) → payload_steps l 0 1 ≡ refused k p → field_given (encoded l) ≡ refused k p
+  pub encoded_refused : (k p : ℕ) → payload_steps l 0 1 ≡ refused k p → field_given (encoded l) ≡ refused k p
   unfolding field_given
-  encoded-refused k p e = simp (alone-refused l 1 k p e)
+  encoded_refused k p e = simp (alone_refused l 1 k p e)
 
-  pub encoded-fine : (n : ℕ) → payload_steps l 0 1 ≡ fine n → field_given (encoded l) ≡ fine l
+  pub encoded_fine : (n : ℕ) → payload_steps l 0 1 ≡ fine n → field_given (encoded l) ≡ fine l
   unfolding field_given
-  encoded-fine n e = simp (alone-accepted l 1 n e).1
+  encoded_fine n e = simp (alone_accepted l 1 n e).1
 
 -- a scalar, encoded where it may be written: its text is what the encoding has at the front
 front_long : (out l : List ℕ) → length l ≤ length (placed out 0 l)
@@ -100,17 +100,17 @@ unfolding placed
 front_long out l = omega (arith, length-append l (drop (0 + length l) out))
 
 module _ (x : Encoded) (v : Scalar) (e : x ≡ encoded_as (scalar_given v)) where
-  pub scalar-refused : x.length ≡ 0 → field_given (scalar v) ≡ refused 17 0
+  pub scalar_refused : x.length ≡ 0 → field_given (scalar v) ≡ refused 17 0
   unfolding field_given scalar_given scalar_text
-  scalar-refused h = go (writable v) refl
+  scalar_refused h = go (writable v) refl
     where
       go : (t : Bool) → writable v ≡ t → field_given (scalar v) ≡ refused 17 0
       go true q = let long = ap (λ (y : Encoded). y.length) (rw q at e) in absurd (omega arith)
       go false q = simp q
 
-  pub scalar-fine : (x.length ≡ 0 → ⊥) → (field_given (scalar v) ≡ fine (take x.length x.bytes)) × (x.length ≤ length x.bytes)
+  pub scalar_fine : (x.length ≡ 0 → ⊥) → (field_given (scalar v) ≡ fine (take x.length x.bytes)) × (x.length ≤ length x.bytes)
   unfolding field_given scalar_given
-  scalar-fine h = go (writable v) refl
+  scalar_fine h = go (writable v) refl
     where
       go : (t : Bool) → writable v ≡ t → (field_given (scalar v) ≡ fine (take x.length x.bytes)) × (x.length ≤ length x.bytes)
       go true q = let same = rw q at e in rw (same, q) (ap fine (sym (front_stands _ (scalar_text v))), front_long _ (scalar_text v))
@@ -118,17 +118,17 @@ module _ (x : Encoded) (v : Scalar) (e : x ≡ encoded_as (scalar_given v)) wher
 
 -- closing: closed, too much written, not as many as declared, all added
 module _ (w : Writer) where
-  pub closing-closed : w.closed ≡ true → closing w ≡ refused 15 0
+  pub closing_closed : w.closed ≡ true → closing w ≡ refused 15 0
   unfolding closing
-  closing-closed e = simp e
+  closing_closed e = simp e
 
-  pub closing-long : w.closed ≡ false → limit < w.written → closing w ≡ refused 15 0
+  pub closing_long : w.closed ≡ false → limit < w.written → closing w ≡ refused 15 0
   unfolding closing
-  closing-long e h = simp (e, lt-leb w.written limit h)
+  closing_long e h = simp (e, lt-leb w.written limit h)
 
-  pub closing-short : w.closed ≡ false → w.written ≤ limit → (w.added ≡ w.declared → ⊥) → closing w ≡ refused 15 0
+  pub closing_short : w.closed ≡ false → w.written ≤ limit → (w.added ≡ w.declared → ⊥) → closing w ≡ refused 15 0
   unfolding closing
-  closing-short e h q = simp (e, le-leb w.written limit h, ne_eqb w.added w.declared q)
+  closing_short e h q = simp (e, le-leb w.written limit h, ne_eqb w.added w.declared q)
 
   pub closing_fine : w.closed ≡ false → w.written ≤ limit → w.added ≡ w.declared → closing w ≡ fine w.written
   unfolding closing

@@ -32,10 +32,10 @@ module _ (o : Opening) (out last : List ℕ) (room c : ℕ) (y : ℤ) (e : c ≡
   same : header_given o.ids y o.status c o.fields room ≡ opening o room
   same = rw (e, z)
 
-  pub opening-refused : (k p : ℕ) → refused k p ≡ length_of (header_given o.ids y o.status c o.fields room)
+  pub opening_refused : (k p : ℕ) → refused k p ≡ length_of (header_given o.ids y o.status c o.fields room)
       → (shut k p ≡ after_opening o (opening o room)) × (last ≡ buffer_after out 0 (opening o room))
-  opening-refused k p q = (shut_as o k p (opening o room) (q ∙ ap length_of same), left ∙ ap (buffer_after out 0) same)
+  opening_refused k p q = (shut_as o k p (opening o room) (q ∙ ap length_of same), left ∙ ap (buffer_after out 0) same)
 
-  pub opening-granted : (n : ℕ) → fine n ≡ length_of (header_given o.ids y o.status c o.fields room)
+  pub opening_granted : (n : ℕ) → fine n ≡ length_of (header_given o.ids y o.status c o.fields room)
       → (opened o n ≡ after_opening o (opening o room)) × (last ≡ buffer_after out 0 (opening o room))
-  opening-granted n q = (opened_as o n (opening o room) (q ∙ ap length_of same), left ∙ ap (buffer_after out 0) same)
+  opening_granted n q = (opened_as o n (opening o room) (q ∙ ap length_of same), left ∙ ap (buffer_after out 0) same)

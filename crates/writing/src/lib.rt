@@ -2,7 +2,7 @@
 ghost use Rattle.std.specs.Prelude.{◌≡◌, length, true};
 ghost use Rattle.sim0mq.specs.Answer.{refused as refusal};
 ghost use Rattle.writing_opening.specs.Opening.{fitting, buffer_after};
-ghost use Rattle.writing.specs.Writing.{asks_for, count_code, opening, after_opening, encoded, scalar, takes as takesField, adding, after_adding, closing, after_closing};
+ghost use Rattle.writing.specs.Writing.{asks_for, count_code, opening, after_opening, encoded, scalar, takes as takes_field, adding, after_adding, closing, after_closing};
 
 use reading_payload::payload;
 use sim0mq::{Judged, LIMIT, Refusal};
@@ -57,7 +57,7 @@ fn refused(number: u32, place: usize, writer: Writer) -> Wrote
 
 // Whether this state takes a field, in a buffer of `room` bytes.
 fn takes(w: Writer, room: usize) -> bool
-    ensures { result ≡ takesField w room }
+    ensures { result ≡ takes_field w room }
 {
     if w.declared <= w.added {
         return false;
@@ -73,7 +73,7 @@ fn takes(w: Writer, room: usize) -> bool
 
 // Adds the bytes of one field to a state that takes it.
 fn append(w: Writer, text: &[u8], out: &mut [u8]) -> Wrote
-    requires { takesField w (length out.old) ≡ true }
+    requires { takes_field w (length out.old) ≡ true }
     ensures answer { result ≡ after_adding w (fitting w.written (length out.old) text.now) }
     ensures written { out.new
         ≡ buffer_after out.old w.written

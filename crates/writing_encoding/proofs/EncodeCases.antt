@@ -29,8 +29,8 @@ use Rattle.sim0mq_buffers.specs.Placing.{put_in}
 use Rattle.writing_puts.specs.Placing.{number_text}
 use Rattle.writing_puts.specs.Signed.{bits_up_to}
 use Rattle.writing_encoding.specs.Encoded.{encoded_as, marked_given}
-use Rattle.sim0mq.proofs.PlaceLaws.{placed-length, placed_on}
-use Rattle.sim0mq_buffers.proofs.PlaceLaws.{placed-byte}
+use Rattle.sim0mq.proofs.PlaceLaws.{placed_length, placed_on}
+use Rattle.sim0mq_buffers.proofs.PlaceLaws.{placed_byte}
 use Rattle.writing_puts.proofs.PlaceLaws.{placed_coded, big_length, big_fits}
 use Rattle.writing_puts.proofs.SignedLaws.{bits_of_lem}
 
@@ -39,21 +39,21 @@ module _ (m : Mark) (u : ℕ) (is : u ≡ m.unit) where
   taken_of : (k : Kind) → kind_of u ≡ k → mark_taken m (kind_of m.unit) ≡ mark_taken m k
   taken_of k e = ap (mark_taken m) (ap kind_of (sym is) ∙ e)
 
-  pub plain-foreign : u ≤ 28 → (m.currency ≡ 0 → ⊥) → mark_taken m (kind_of m.unit) ≡ false
+  pub plain_foreign : u ≤ 28 → (m.currency ≡ 0 → ⊥) → mark_taken m (kind_of m.unit) ≡ false
   unfolding mark_taken
-  plain-foreign h n = taken_of (plain u) (kind_plain u h) ∙ simp (ne_eqb m.currency 0 n)
+  plain_foreign h n = taken_of (plain u) (kind_plain u h) ∙ simp (ne_eqb m.currency 0 n)
 
-  pub plain-judged : u ≤ 28 → m.currency ≡ 0 → mark_taken m (kind_of m.unit) ≡ display_taken u m.display
+  pub plain_judged : u ≤ 28 → m.currency ≡ 0 → mark_taken m (kind_of m.unit) ≡ display_taken u m.display
   unfolding mark_taken
-  plain-judged h e = taken_of (plain u) (kind_plain u h) ∙ simp (eq-eqb m.currency 0 e)
+  plain_judged h e = taken_of (plain u) (kind_plain u h) ∙ simp (eq-eqb m.currency 0 e)
 
-  pub between-untaken : 28 < u → u ≤ 99 → mark_taken m (kind_of m.unit) ≡ false
+  pub between_untaken : 28 < u → u ≤ 99 → mark_taken m (kind_of m.unit) ≡ false
   unfolding mark_taken
-  between-untaken h k = taken_of unknown (kind_between u h k)
+  between_untaken h k = taken_of unknown (kind_between u h k)
 
-  pub above-untaken : 106 < u → mark_taken m (kind_of m.unit) ≡ false
+  pub above_untaken : 106 < u → mark_taken m (kind_of m.unit) ≡ false
   unfolding mark_taken
-  above-untaken h = taken_of unknown (kind_above u h)
+  above_untaken h = taken_of unknown (kind_above u h)
 
   -- of the kinds with a currency, the first test is the currency's
   foreign : (b : Bool) (t : ℕ) → currency_taken m.currency ≡ false → mark_taken m (cond b money (money_per t)) ≡ false
@@ -61,36 +61,36 @@ module _ (m : Mark) (u : ℕ) (is : u ≡ m.unit) where
   foreign true t e = simp e
   foreign false t e = simp e
 
-  pub money-foreign : 99 < u → u ≤ 106 → currency_taken m.currency ≡ false → mark_taken m (kind_of m.unit) ≡ false
+  pub money_foreign : 99 < u → u ≤ 106 → currency_taken m.currency ≡ false → mark_taken m (kind_of m.unit) ≡ false
   unfolding kind_of
-  money-foreign h k e =
+  money_foreign h k e =
       taken_of (cond (eqb u 100) money (money_per (get_or per_row (u - 101) 0))) (simp (lt-leb u 28 (omega arith), lt-leb u 99 h, le-leb u 106 k))
       ∙ foreign (eqb u 100) (get_or per_row (u - 101) 0) e
 
-  pub money-judged : u ≡ 100 → currency_taken m.currency ≡ true → mark_taken m (kind_of m.unit) ≡ eqb m.display 0
+  pub money_judged : u ≡ 100 → currency_taken m.currency ≡ true → mark_taken m (kind_of m.unit) ≡ eqb m.display 0
   unfolding mark_taken
-  money-judged h e = taken_of money (kind_money u h) ∙ simp e
+  money_judged h e = taken_of money (kind_money u h) ∙ simp e
 
-  pub per-judged : 100 < u → u ≤ 106 → currency_taken m.currency ≡ true
+  pub per_judged : 100 < u → u ≤ 106 → currency_taken m.currency ≡ true
       → mark_taken m (kind_of m.unit) ≡ display_taken (get_or per_row (u - 101) 0) m.display
   unfolding mark_taken
-  per-judged h k e = taken_of (money_per (get_or per_row (u - 101) 0)) (kind_per u h k) ∙ simp e
+  per_judged h k e = taken_of (money_per (get_or per_row (u - 101) 0)) (kind_per u h k) ∙ simp e
 
 -- the bytes of a mark
 module _ (m : Mark) where
   -- it has at most four
-  mark-short : (k : Kind) → length (bytes_of_mark m k) ≤ 4
+  mark_short : (k : Kind) → length (bytes_of_mark m k) ≤ 4
   unfolding bytes_of_mark
-  mark-short (plain t) = omega arith
-  mark-short money = omega (arith, big_length 2 m.currency)
-  mark-short (money_per t) = omega (arith, big_length 2 m.currency, length-append (big_bytes 2 m.currency) (m.display ∷ []))
-  mark-short unknown = omega arith
+  mark_short (plain t) = omega arith
+  mark_short money = omega (arith, big_length 2 m.currency)
+  mark_short (money_per t) = omega (arith, big_length 2 m.currency, length-append (big_bytes 2 m.currency) (m.display ∷ []))
+  mark_short unknown = omega arith
 
   -- a taken mark has a unit type with a currency, unless it is plain
-  pub taken-money : mark_taken m (kind_of m.unit) ≡ true → 28 < m.unit → (99 < m.unit) × (m.unit ≤ 106)
-  taken-money t h =
-      let low : m.unit ≤ 99 → ⊥ = λ k. true≢false (sym t ∙ between-untaken m m.unit refl h k) in
-      let high : 106 < m.unit → ⊥ = λ k. true≢false (sym t ∙ above-untaken m m.unit refl k) in
+  pub taken_money : mark_taken m (kind_of m.unit) ≡ true → 28 < m.unit → (99 < m.unit) × (m.unit ≤ 106)
+  taken_money t h =
+      let low : m.unit ≤ 99 → ⊥ = λ k. true≢false (sym t ∙ between_untaken m m.unit refl h k) in
+      let high : 106 < m.unit → ⊥ = λ k. true≢false (sym t ∙ above_untaken m m.unit refl k) in
       (omega arith, omega arith)
 
   -- from 1 on in a buffer, piece by piece
@@ -105,8 +105,8 @@ module _ (m : Mark) where
     unfolding bytes_of_mark
     plain-written k =
         written_as 3 _ (m.unit ∷ m.display ∷ []) (ap (bytes_of_mark m) (kind_plain m.unit k)) refl
-        (placed-byte (set out 1 m.unit) 2 m.display (omega (arith, length-set out 1 m.unit))
-        ∙ ap (λ (o : List ℕ). placed o 2 (m.display ∷ [])) (placed-byte out 1 m.unit (omega arith))
+        (placed_byte (set out 1 m.unit) 2 m.display (omega (arith, length-set out 1 m.unit))
+        ∙ ap (λ (o : List ℕ). placed o 2 (m.display ∷ [])) (placed_byte out 1 m.unit (omega arith))
         ∙ placed_on out 1 (m.unit ∷ []) (m.display ∷ []) 2 refl (omega arith))
 
     module _ (now : List ℕ) (e : now ≡ put_in (set out 1 m.unit) 2 (big_bytes 2 m.currency)) where
@@ -119,7 +119,7 @@ module _ (m : Mark) where
       long = omega (arith, big_length 2 m.currency)
 
       pub money-length : length now ≡ length out
-      money-length = ap length coded ∙ placed-length out 1 (number_text m.unit 2 m.currency) (omega (arith, long))
+      money-length = ap length coded ∙ placed_length out 1 (number_text m.unit 2 m.currency) (omega (arith, long))
 
       pub money-written : m.unit ≡ 100
           → (4 ≡ 1 + length (bytes_of_mark m (kind_of m.unit))) × (now ≡ placed out 1 (bytes_of_mark m (kind_of m.unit)))
@@ -134,7 +134,7 @@ module _ (m : Mark) where
           let text = number_text m.unit 2 m.currency in
           written_as 5 _ (text ++ (m.display ∷ [])) (ap (bytes_of_mark m) (kind_per m.unit k l))
           (omega (arith, long, length-append text (m.display ∷ [])))
-          (placed-byte now 4 m.display (omega (arith, money-length))
+          (placed_byte now 4 m.display (omega (arith, money-length))
           ∙ ap (λ (o : List ℕ). placed o 4 (m.display ∷ [])) coded
           ∙ placed_on out 1 text (m.display ∷ []) 4 (omega (arith, long)) (omega arith))
 
@@ -144,26 +144,26 @@ pub plain_encoded : (c n x : ℕ) (now : List ℕ) → now ≡ placed (replicate
 plain_encoded c n x now e = let long : 1 + n ≡ suc (length (big_bytes n x)) = omega (arith, big_length n x) in rw (e, long)
 
 module _ (c n x : ℕ) (m : Mark) where
-  pub untaken-encoded : mark_taken m (kind_of m.unit) ≡ false → encoded_as (refused 17 0) ≡ encoded_as (marked_given c m n x)
+  pub untaken_encoded : mark_taken m (kind_of m.unit) ≡ false → encoded_as (refused 17 0) ≡ encoded_as (marked_given c m n x)
   unfolding marked_given
-  untaken-encoded e = simp e
+  untaken_encoded e = simp e
 
   -- the mark is put after the code, and the number after the mark
   module _ (marked : List ℕ) (end : ℕ) (e : end ≡ 1 + length (bytes_of_mark m (kind_of m.unit)))
       (f : marked ≡ placed (set (replicate 13 0) 0 c) 1 (bytes_of_mark m (kind_of m.unit))) where
     pub marked-short : n ≤ 8 → end + n ≤ 13
-    marked-short short = omega (arith, mark-short m (kind_of m.unit))
+    marked-short short = omega (arith, mark_short m (kind_of m.unit))
 
     front : marked ≡ placed (replicate 13 0) 0 (c ∷ bytes_of_mark m (kind_of m.unit))
     front =
         let mark = bytes_of_mark m (kind_of m.unit) in
-        f ∙ ap (λ (o : List ℕ). placed o 1 mark) (placed-byte (replicate 13 0) 0 c (omega arith))
-        ∙ placed_on (replicate 13 0) 0 (c ∷ []) mark 1 refl (omega (arith, mark-short m (kind_of m.unit)))
+        f ∙ ap (λ (o : List ℕ). placed o 1 mark) (placed_byte (replicate 13 0) 0 c (omega arith))
+        ∙ placed_on (replicate 13 0) 0 (c ∷ []) mark 1 refl (omega (arith, mark_short m (kind_of m.unit)))
 
     front_length : length marked ≡ 13
     front_length =
         ap length front
-        ∙ placed-length (replicate 13 0) 0 (c ∷ bytes_of_mark m (kind_of m.unit)) (omega (arith, mark-short m (kind_of m.unit)))
+        ∙ placed_length (replicate 13 0) 0 (c ∷ bytes_of_mark m (kind_of m.unit)) (omega (arith, mark_short m (kind_of m.unit)))
 
     marked-fits : n ≤ 8 → end + n ≤ length marked
     marked-fits short = omega (arith, marked-short short, front_length)
@@ -189,15 +189,15 @@ module _ (v : Scalar) where
   unfolding scalar_given
   written c n x e t = simp (e, t)
 
-  pub marked-written : (c : ℕ) (m : Mark) (n x : ℕ) → writable v ≡ mark_taken m (kind_of m.unit)
+  pub marked_written : (c : ℕ) (m : Mark) (n x : ℕ) → writable v ≡ mark_taken m (kind_of m.unit)
       → scalar_text v ≡ c ∷ (bytes_of_mark m (kind_of m.unit) ++ big_bytes n x) → encoded_as (marked_given c m n x) ≡ encoded_as (scalar_given v)
   unfolding marked_given scalar_given
-  marked-written c m n x e t = simp (e, t)
+  marked_written c m n x e t = simp (e, t)
 
   -- a signed number, whose bits the code takes at a width
-  pub signed-written : (c n w b : ℕ) (y z : ℤ) → writable v ≡ true → scalar_text v ≡ number_text c n (bits_of w z)
+  pub signed_written : (c n w b : ℕ) (y z : ℤ) → writable v ≡ true → scalar_text v ≡ number_text c n (bits_of w z)
       → b ≡ bits_up_to (2 ^ w - 1) y → y ≡ z → encoded_as (fine (number_text c n b)) ≡ encoded_as (scalar_given v)
-  signed-written c n w b y z e t g k =
+  signed_written c n w b y z e t g k =
       ap (λ (a : ℕ). encoded_as (fine (number_text c n a))) (g ∙ ap (bits_up_to (2 ^ w - 1)) k ∙ bits_of_lem w z)
       ∙ written c n (bits_of w z) e t
 

@@ -18,37 +18,37 @@ use Rattle.sim0mq.specs.Message.{limit}
 use Rattle.sim0mq.specs.Allowed.{frame0}
 use Rattle.sim0mq.proofs.Answers.{not_fine, fine_eq, bind_fine, guarded}
 use Rattle.sim0mq.proofs.Rows.{all_pass, pass_among, eight_wide}
-use Rattle.reading_header.proofs.FrameCases.{nth-id, nth-goes}
+use Rattle.reading_header.proofs.FrameCases.{nth_id, nth_goes}
 use Rattle.sim0mq_signed.specs.Signed.{bits_of}
 use Rattle.sim0mq.specs.Table.{placed}
 use Rattle.sim0mq_buffers.specs.Placing.{put_in}
 use Rattle.writing_puts.specs.Placing.{number_text}
 use Rattle.writing_opening.specs.Opening.{ids_from, holds, header_with, fitting, header_given}
 use Rattle.writing_opening.specs.Judges.{numbers_judged, opening_judged}
-use Rattle.sim0mq.proofs.PlaceLaws.{placed-length, placed_on}
+use Rattle.sim0mq.proofs.PlaceLaws.{placed_length, placed_on}
 use Rattle.sim0mq_buffers.proofs.PlaceLaws.{put_fits}
 use Rattle.writing_puts.proofs.PlaceLaws.{big_length}
 
 -- the id frames from `at` on: a refused one, the next one, bytes after the last, no byte after it
 module _ (s : List ℕ) (n at : ℕ) where
-  pub ids-stop : (m k p : ℕ) → n ≡ m + 1 → frame s id_codes at ≡ refused k p → ids_from s n at ≡ refused k p
+  pub ids_stop : (m k p : ℕ) → n ≡ m + 1 → frame s id_codes at ≡ refused k p → ids_from s n at ≡ refused k p
   unfolding ids_from
-  ids-stop m k p e q = simp (e, add-one m, q)
+  ids_stop m k p e q = simp (e, add-one m, q)
 
   pub ids_more : (m : ℕ) (f : Field) → n ≡ m + 1 → frame s id_codes at ≡ fine f → ids_from s n at ≡ ids_from s m (after f)
   unfolding ids_from
   ids_more m f e q = simp (e, add-one m, q)
 
-  pub ids-over : n ≡ 0 → at < length s → ids_from s n at ≡ refused 13 at
+  pub ids_over : n ≡ 0 → at < length s → ids_from s n at ≡ refused 13 at
   unfolding ids_from
-  ids-over e h = simp (e, lt-leb (length s) at h)
+  ids_over e h = simp (e, lt-leb (length s) at h)
 
   pub ids_end : n ≡ 0 → length s ≤ at → ids_from s n at ≡ fine at
   unfolding ids_from
   ids_end e h = simp (e, le-leb (length s) at h)
 
 pub id_goes : (s : List ℕ) (at : ℕ) (f : Field) → frame s id_codes at ≡ fine f → after f ≤ length s
-id_goes s at f e = nth-goes s 1 at f (sym (nth-id s 1 at (omega arith)) ∙ e)
+id_goes s at f e = nth_goes s 1 at f (sym (nth_id s 1 at (omega arith)) ∙ e)
 
 -- the single numbers
 status_taken_lem : (x : ℕ) → 1 ≤ x → x ≤ 3 → status_taken x ≡ true
@@ -75,13 +75,13 @@ count_held (suc (suc (suc c))) fields h k z = absurd (omega arith)
 
 -- the numbers of a header whose ids have n bytes
 module _ (n status c fields room : ℕ) where
-  pub numbers-low : status < 1 → numbers_judged n status c fields room ≡ refused 6 0
+  pub numbers_low : status < 1 → numbers_judged n status c fields room ≡ refused 6 0
   unfolding numbers_judged status_taken
-  numbers-low h = simp (lt-leb 1 status h)
+  numbers_low h = simp (lt-leb 1 status h)
 
-  pub numbers-high : 1 ≤ status → 3 < status → numbers_judged n status c fields room ≡ refused 6 0
+  pub numbers_high : 1 ≤ status → 3 < status → numbers_judged n status c fields room ≡ refused 6 0
   unfolding numbers_judged status_taken
-  numbers-high h k = simp (le-leb 1 status h, lt-leb status 3 k)
+  numbers_high h k = simp (le-leb 1 status h, lt-leb status 3 k)
 
   module _ (low : 1 ≤ status) (high : status ≤ 3) where
     pub numbers-type : 2 < c → numbers_judged n status c fields room ≡ refused 4 0
@@ -116,19 +116,19 @@ module _ (n status c fields room : ℕ) where
 
 -- the opening: the ids, then the numbers
 module _ (ids : List ℕ) (status c fields room : ℕ) where
-  pub opening-stop : (k p : ℕ) → ids_from ids 4 0 ≡ refused k p → opening_judged ids status c fields room ≡ refused k p
+  pub opening_stop : (k p : ℕ) → ids_from ids 4 0 ≡ refused k p → opening_judged ids status c fields room ≡ refused k p
   unfolding opening_judged
-  opening-stop k p e = simp e
+  opening_stop k p e = simp e
 
-  pub opening-numbers : (end : ℕ) → ids_from ids 4 0 ≡ fine end → numbers_judged (length ids) status c fields room ≡ opening_judged ids status c fields room
+  pub opening_numbers_lem : (end : ℕ) → ids_from ids 4 0 ≡ fine end → numbers_judged (length ids) status c fields room ≡ opening_judged ids status c fields room
   unfolding opening_judged
-  opening-numbers end e = simp e
+  opening_numbers_lem end e = simp e
 
 -- the header's length
 module _ (ids : List ℕ) (number : ℤ) (status c fields : ℕ) where
-  header-length : length (header_with ids number status c fields) ≡ 22 + width_of c + length ids
+  header_length : length (header_with ids number status c fields) ≡ 22 + width_of c + length ids
   unfolding header_with
-  header-length =
+  header_length =
       let message = number_text 3 8 (bits_of 64 number) in
       let count = number_text c (width_of c) fields in
       length-append frame0 (ids ++ (message ++ (number_text 0 1 status ++ count)))
@@ -142,16 +142,16 @@ module _ (ids : List ℕ) (number : ℤ) (status c fields : ℕ) where
   module _ (out : List ℕ) where
     onto : (l b r t : List ℕ) (p : ℕ) → p ≡ length l → p + length b ≤ length out → r ≡ placed out 0 l → t ≡ put_in r p b → t ≡ placed out 0 (l ++ b)
     onto l b r t p e h i j =
-        let same : length r ≡ length out = ap length i ∙ placed-length out 0 l (omega arith) in
+        let same : length r ≡ length out = ap length i ∙ placed_length out 0 l (omega arith) in
         j ∙ put_fits r p b (omega arith) ∙ ap (λ (o : List ℕ). placed o p b) i ∙ placed_on out 0 l b p (omega arith) h
 
-    pub header-placed : (a b d e g : List ℕ) (x w : ℕ) → x ≡ bits_of 64 number → w ≡ width_of c
+    pub header_placed : (a b d e g : List ℕ) (x w : ℕ) → x ≡ bits_of 64 number → w ≡ width_of c
         → length (header_with ids number status c fields) ≤ length out → a ≡ put_in out 0 frame0 → b ≡ put_in a 10 ids
         → d ≡ put_in b (10 + length ids) (number_text 3 8 x) → e ≡ put_in d (10 + length ids + 9) (number_text 0 1 status)
         → g ≡ put_in e (10 + length ids + 11) (number_text c w fields) → g ≡ placed out 0 (header_with ids number status c fields)
     unfolding header_with
-    header-placed a b d e g x w q v fits i j k l m =
-        let long = header-length in
+    header_placed a b d e g x w q v fits i j k l m =
+        let long = header_length in
         let message = number_text 3 8 (bits_of 64 number) in
         let stat = number_text 0 1 status in
         let count = number_text c (width_of c) fields in
@@ -188,11 +188,11 @@ module _ (ids : List ℕ) (number : ℤ) (status c fields room : ℕ) where
   abbrev header : List ℕ
   header = header_with ids number status c fields
 
-  given-length : opening_judged ids status c fields room ≡ length_of given
+  given_length : opening_judged ids status c fields room ≡ length_of given
   unfolding opening_judged numbers_judged header_given fitting
-  given-length =
+  given_length =
       let n = 22 + width_of c + length ids in
-      let long : n ≡ length header = sym (header-length ids number status c fields) in
+      let long : n ≡ length header = sym (header_length ids number status c fields) in
       let same : n ≡ 0 + length header = omega arith in
       bind_length (ids_from ids 4 0) _ _
       (guard_length (status_taken status) 6 0 _ _
@@ -203,17 +203,17 @@ module _ (ids : List ℕ) (number : ℤ) (status c fields room : ℕ) where
       (guard_length (leb (0 + length header) room) 14 0 (fine n) (fine header) (ap fine long))))))
 
   -- the judge refuses what opening refuses; and grants what it grants, which is the header
-  pub given-refused : (k p : ℕ) → opening_judged ids status c fields room ≡ refused k p → given ≡ refused k p
-  given-refused k p q = go given (sym given-length ∙ q)
+  pub given_refused : (k p : ℕ) → opening_judged ids status c fields room ≡ refused k p → given ≡ refused k p
+  given_refused k p q = go given (sym given_length ∙ q)
     where
       go : (a : Answer (List ℕ)) → length_of a ≡ refused k p → a ≡ refused k p
       go (fine l) q = absurd (not_fine (sym q))
       go (refused r w) q = cc
 
-  pub given-granted : (n : ℕ) → opening_judged ids status c fields room ≡ fine n
+  pub given_granted : (n : ℕ) → opening_judged ids status c fields room ≡ fine n
       → (given ≡ fine header) × (n ≡ length header) × (c ≤ 2) × (length header ≤ room)
   unfolding header_given fitting all_pass
-  given-granted n q = go given refl (sym given-length ∙ q)
+  given_granted n q = go given refl (sym given_length ∙ q)
     where
       go : (a : Answer (List ℕ)) → given ≡ a → length_of a ≡ fine n → (given ≡ fine header) × (n ≡ length header) × (c ≤ 2) × (length header ≤ room)
       go (refused r w) g h = absurd (not_fine h)

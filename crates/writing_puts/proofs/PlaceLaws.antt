@@ -10,7 +10,7 @@ use Rattle.sim0mq_buffers.specs.Placing.{put_in}
 use Rattle.writing_puts.specs.Placing.{number_text}
 use Rattle.sim0mq.specs.Table.{placed}
 use Rattle.sim0mq.proofs.PlaceLaws.{placed_on}
-use Rattle.sim0mq_buffers.proofs.PlaceLaws.{placed-byte, put_fits, put-over}
+use Rattle.sim0mq_buffers.proofs.PlaceLaws.{placed_byte, put_fits, put_over}
 
 -- a text whose last byte is stored first
 placed_last : (out : List ℕ) (at : ℕ) (a : List ℕ) (x : ℕ) → at + length a < length out
@@ -51,7 +51,7 @@ placed_turn out at n x h k =
 -- a code, and a number after it
 pub placed_coded : (out : List ℕ) (at c n x : ℕ) → at + 1 + n ≤ length out → placed (set out at c) (at + 1) (big_bytes n x) ≡ placed out at (number_text c n x)
 placed_coded out at c n x h =
-    ap (λ (o : List ℕ). placed o (at + 1) (big_bytes n x)) (placed-byte out at c (omega arith))
+    ap (λ (o : List ℕ). placed o (at + 1) (big_bytes n x)) (placed_byte out at c (omega arith))
     ∙ placed_on out at (c ∷ []) (big_bytes n x) (at + 1) refl (omega (arith, big_length n x))
 
 -- a number of n bytes has room where n bytes have
@@ -59,4 +59,4 @@ pub big_fits : (out : List ℕ) (at n x : ℕ) → at + n ≤ length out → put
 big_fits out at n x h = put_fits out at (big_bytes n x) (omega (arith, big_length n x))
 
 pub big_over : (out : List ℕ) (at n x : ℕ) → length out < at + n → out ≡ put_in out at (big_bytes n x)
-big_over out at n x h = put-over out at (big_bytes n x) (omega (arith, big_length n x))
+big_over out at n x h = put_over out at (big_bytes n x) (omega (arith, big_length n x))

@@ -35,11 +35,11 @@ module _ (w : Width) (most : ℕ) (z : ℤ) (f : SFits w z) where
   pub bits_up : le_z (pos 0) (to_z w (of_z w z)) ≡ true → nat_abs (to_z w (of_z w z)) ≡ bits_up_to most z
   bits_up e = rw (to_z-of_z w z f) (up_bits most z (rw (to_z-of_z w z f) at e))
 
-  pub bits-down : le_z (pos 0) (to_z w (of_z w z)) ≡ false → most - nat_abs (to_z w (of_z w (negsuc 0 -ℤ to_z w (of_z w z)))) ≡ bits_up_to most z
-  bits-down e = rw (down w z f e) (down_bits most z (rw (to_z-of_z w z f) at e))
+  pub bits_down : le_z (pos 0) (to_z w (of_z w z)) ≡ false → most - nat_abs (to_z w (of_z w (negsuc 0 -ℤ to_z w (of_z w z)))) ≡ bits_up_to most z
+  bits_down e = rw (down w z f e) (down_bits most z (rw (to_z-of_z w z f) at e))
 
   pub bits_none : le_z (pos 0) (to_z w (of_z w z)) ≡ false → most < nat_abs (to_z w (of_z w (negsuc 0 -ℤ to_z w (of_z w z)))) → 0 ≡ bits_up_to most z
-  bits_none e h = let none : 0 ≡ most - nat_abs (to_z w (of_z w (negsuc 0 -ℤ to_z w (of_z w z)))) = omega arith in none ∙ bits-down e
+  bits_none e h = let none : 0 ≡ most - nat_abs (to_z w (of_z w (negsuc 0 -ℤ to_z w (of_z w z)))) = omega arith in none ∙ bits_down e
 
 -- a signed number that the code widens
 module _ (w : Width) (z : ℤ) (f : SFits w z) where

@@ -51,23 +51,23 @@ module _ (o : Opening) (room : ℕ) (h : Opened o room (header_text o)) (fs : Li
   s = message_bytes parts
 
   -- the places of frames 5 to 7
-  ids-long : length o.ids
+  ids_long : length o.ids
       ≡ length (field_bytes h.run) + length (field_bytes h.sender) + length (field_bytes h.receiver) + length (field_bytes h.kind)
   unfolding flat_map
-  ids-long =
+  ids_long =
       ap length (sym h.ids) ∙ four_long (field_bytes h.run) (field_bytes h.sender) (field_bytes h.receiver) (field_bytes h.kind)
 
-  place-5 : frame_place (cut_of parts) 5 ≡ 10 + length o.ids
+  place_5 : frame_place (cut_of parts) 5 ≡ 10 + length o.ids
   unfolding cut_frames
-  place-5 = let e = ids-long in omega arith
+  place_5 = let e = ids_long in omega arith
 
-  place-6 : frame_place (cut_of parts) 6 ≡ 10 + length o.ids + 9
+  place_6 : frame_place (cut_of parts) 6 ≡ 10 + length o.ids + 9
   unfolding cut_frames flat_map
-  place-6 = let e = ids-long in omega (arith, big_length 8 (bits_of 64 o.number))
+  place_6 = let e = ids_long in omega (arith, big_length 8 (bits_of 64 o.number))
 
-  place-7 : frame_place (cut_of parts) 7 ≡ 10 + length o.ids + 11
+  place_7 : frame_place (cut_of parts) 7 ≡ 10 + length o.ids + 11
   unfolding cut_frames flat_map
-  place-7 = let e = ids-long in omega (arith, big_length 8 (bits_of 64 o.number), big_length 1 o.status)
+  place_7 = let e = ids_long in omega (arith, big_length 8 (bits_of 64 o.number), big_length 1 o.status)
 
   -- what stands there
   abbrev c : ℕ
@@ -82,34 +82,34 @@ module _ (o : Opening) (room : ℕ) (h : Opened o room (header_text o)) (fs : Li
   abbrev message_number : List ℕ
   message_number = number_text 3 8 (bits_of 64 o.number)
 
-  after-0 : Stands s 10 (o.ids ++ (message_number ++ (status ++ count)))
+  after_0 : Stands s 10 (o.ids ++ (message_number ++ (status ++ count)))
   unfolding header_with
-  after-0 =
+  after_0 =
       let front = header_bytes parts.header in
       let whole : Stands s 0 (header_text o) = subst (Stands s 0) h.bytes (stands_left front (flat_map field_bytes fs) (stands_self s)) in
       stands_right frame0 (o.ids ++ (message_number ++ (status ++ count))) whole
 
   at_5 : Stands s (10 + length o.ids) (message_number ++ (status ++ count))
-  at_5 = stands_right o.ids (message_number ++ (status ++ count)) after-0
+  at_5 = stands_right o.ids (message_number ++ (status ++ count)) after_0
 
-  at-6 : Stands s (10 + length o.ids + 9) (status ++ count)
-  at-6 = stands_to _ (let e = big_length 8 (bits_of 64 o.number) in omega arith) (stands_right message_number (status ++ count) at_5)
+  at_6 : Stands s (10 + length o.ids + 9) (status ++ count)
+  at_6 = stands_to _ (let e = big_length 8 (bits_of 64 o.number) in omega arith) (stands_right message_number (status ++ count) at_5)
 
   at_7 : Stands s (10 + length o.ids + 11) count
-  at_7 = stands_to _ (let e = big_length 1 o.status in omega arith) (stands_right status count at-6)
+  at_7 = stands_to _ (let e = big_length 1 o.status in omega arith) (stands_right status count at_6)
 
-  header-said : SaysHeader o s (cut_of parts)
+  header_said : SaysHeader o s (cut_of parts)
   unfolding cut_frames
-  header-said =
+  header_said =
       let n = length o.ids in
-      let ids : frame_place (cut_of parts) 5 - 10 ≡ n = omega (arith, place-5) in
-      let five : frame_place (cut_of parts) 5 + 1 ≡ 10 + n + 1 = ap (λ (k : ℕ). k + 1) place-5 in
-      let six : frame_place (cut_of parts) 6 + 1 ≡ 10 + n + 9 + 1 = ap (λ (k : ℕ). k + 1) place-6 in
-      let seven : frame_place (cut_of parts) 7 + 1 ≡ 10 + n + 11 + 1 = ap (λ (k : ℕ). k + 1) place-7 in
+      let ids : frame_place (cut_of parts) 5 - 10 ≡ n = omega (arith, place_5) in
+      let five : frame_place (cut_of parts) 5 + 1 ≡ 10 + n + 1 = ap (λ (k : ℕ). k + 1) place_5 in
+      let six : frame_place (cut_of parts) 6 + 1 ≡ 10 + n + 9 + 1 = ap (λ (k : ℕ). k + 1) place_6 in
+      let seven : frame_place (cut_of parts) 7 + 1 ≡ 10 + n + 11 + 1 = ap (λ (k : ℕ). k + 1) place_7 in
       record {
         ids =
             ap (λ (k : ℕ). take k (drop 10 s)) ids
-            ∙ part_back o.ids (stands_left o.ids (message_number ++ (status ++ count)) after-0);
+            ∙ part_back o.ids (stands_left o.ids (message_number ++ (status ++ count)) after_0);
         number =
             λ held.
             ap (λ (k : ℕ). twos 64 (big s k 8)) five
@@ -117,8 +117,8 @@ module _ (o : Opening) (room : ℕ) (h : Opened o room (header_text o)) (fs : Li
             ∙ signed_back 64 o.number (omega arith) held;
         status =
             ap (byte s) six
-            ∙ stands_head (subst (Stands s (10 + n + 9 + 1)) (status_byte o.status h.status) (stands_tail (stands_left status count at-6)));
-        kind = ap (byte s) place-7 ∙ stands_head at_7;
+            ∙ stands_head (subst (Stands s (10 + n + 9 + 1)) (status_byte o.status h.status) (stands_tail (stands_left status count at_6)));
+        kind = ap (byte s) place_7 ∙ stands_head at_7;
         count =
             ap (λ (k : ℕ). big s k (width_of c)) seven
             ∙ ap (big s (10 + n + 11 + 1)) (sym (big_length (width_of c) o.fields))
@@ -210,7 +210,7 @@ reads_back o out p t k end =
     record {
       found = cut_of m;
       accepted = λ lent room. room_is_all_that_counts lent (message_bytes m) room ∙ q;
-      header = header-said o (length out) h fs;
+      header = header_said o (length out) h fs;
       fields = own;
       scalars = λ before after v split held. scalar_asked (message_bytes m) (cut_of m) p.given before after v q own k.fields.taken split held;
     }

@@ -16,7 +16,7 @@ use Rattle.sim0mq.specs.Payload.{payload}
 use Rattle.sim0mq.specs.Header.{id_codes, count_codes, status_taken, fields_taken, frame}
 use Rattle.sim0mq.specs.Message.{limit}
 use Rattle.sim0mq.proofs.Answers.{not_fine}
-use Rattle.sim0mq.proofs.Refusals.{Held, bind_held, guard_held, Lists, frame-bears, payload-bears}
+use Rattle.sim0mq.proofs.Refusals.{Held, bind_held, guard_held, Lists, frame_bears, payload_bears}
 use Rattle.sim0mq.proofs.Rows.{all_pass, pass_among, id_not_boolean}
 use Rattle.sim0mq_kinds.specs.declared.Scalar.{Scalar}
 use Rattle.writing_encoding.specs.Scalars.{writable, scalar_given}
@@ -60,7 +60,7 @@ ids_bear : (s : List ℕ) (n at : ℕ) → at ≤ length s → Held id_numbers (
 unfolding ids_from among
 ids_bear s zero at h = guard_held id_numbers (length s) (leb (length s) at) 13 at _ refl h (λ t. tt)
 ids_bear s (suc n) at h =
-    bind_held id_numbers (length s) (frame s id_codes at) _ (frame-bears id_numbers refl s refl id_codes ids_listed at)
+    bind_held id_numbers (length s) (frame s id_codes at) _ (frame_bears id_numbers refl s refl id_codes ids_listed at)
     (λ f e. ids_bear s n (after f) (id_goes s at f e))
 
 -- the message's length and the buffer's room
@@ -92,7 +92,7 @@ adding_in w room l =
     guard_in field_numbers l add_numbers (takes w room) 15 _ refl
     (bind_in field_numbers l add_numbers (field_given (encoded l)) _
     (bind_in field_numbers l add_numbers (payload l 1) _
-    (held_in field_numbers l add_numbers (payload l 1) (payload-bears field_numbers refl l refl fields_listed 1 0 zero-le)) (λ fs. tt))
+    (held_in field_numbers l add_numbers (payload l 1) (payload_bears field_numbers refl l refl fields_listed 1 0 zero-le)) (λ fs. tt))
     (λ text. fitting_in field_numbers l add_numbers w.written room text refl refl))
 
 pub scalar_in : (w : Writer) (room : ℕ) (v : Scalar) → In [] [] (17 ∷ add_numbers) (adding w room (scalar v))

@@ -23,7 +23,7 @@ use Rattle.writing.specs.Writing.{Opening, header_text, opening, after_opening, 
 use Rattle.writing_returning.specs.History.{Point, start, adds, closes, given_after, next, after_calls}
 use Rattle.writing_returning.specs.Promises.{frame_place, own_opening, own_fields, rewritten, Rewrites, RewritingGivesTheSame}
 use Rattle.writing.specs.declared.Writer.{Writer}
-use Rattle.sim0mq.proofs.PlaceLaws.{placed-length, placed_on}
+use Rattle.sim0mq.proofs.PlaceLaws.{placed_length, placed_on}
 use Rattle.sim0mq_buffers.proofs.PlaceLaws.{front_stands}
 use Rattle.writing_returning.proofs.JoinLaws.{flat_append, four_long}
 use Rattle.writing_returning.proofs.GivenLaws.{encoded_taken, own_fields_lem}
@@ -51,7 +51,7 @@ module _ (out text l : List ℕ) (k n : ℕ) where
       → adding (writer_at text k n) (length (placed out 0 text)) (encoded l) ≡ fine l
   unfolding adding takes fitting
   granted e some short fits =
-      let room = placed-length out 0 text (omega arith) in
+      let room = placed_length out 0 text (omega arith) in
       simp (
         lt-ltb k n some,
         le-leb (length text) limit (omega arith),
@@ -149,40 +149,40 @@ module _ (p : MessageParts) (is : IsMessage p) (out : List ℕ) where
   ids = flat_map field_bytes (ids_of h)
 
   -- the ids and then frames 5 to 7 stand where the reading says
-  frames-stand : Stands s 10 (ids ++ flat_map field_bytes (h.message ∷ h.status ∷ h.count ∷ []))
-  frames-stand =
+  frames_stand : Stands s 10 (ids ++ flat_map field_bytes (h.message ∷ h.status ∷ h.count ∷ []))
+  frames_stand =
       subst (Stands s 10) (flat_append field_bytes (ids_of h) (h.message ∷ h.status ∷ h.count ∷ []))
       (stands_right frame0 (flat_map field_bytes (header_frames h)) (stands_left (header_bytes h) (flat_map field_bytes p.fields) (stands_self s)))
 
-  ids-stand : take (frame_place m 5 - frame_place m 1) (drop (frame_place m 1) s) ≡ ids
+  ids_stand : take (frame_place m 5 - frame_place m 1) (drop (frame_place m 1) s) ≡ ids
   unfolding cut_frames
-  ids-stand =
+  ids_stand =
       let size : frame_place m 5 - 10 ≡ length ids = omega (arith, ids_end h) in
-      ap (λ (n : ℕ). take n (drop 10 s)) size ∙ part_back ids (stands_left ids _ frames-stand)
+      ap (λ (n : ℕ). take n (drop 10 s)) size ∙ part_back ids (stands_left ids _ frames_stand)
 
-  five-on : Stands s (frame_place m 5) (flat_map field_bytes (h.message ∷ h.status ∷ h.count ∷ []))
+  five_on : Stands s (frame_place m 5) (flat_map field_bytes (h.message ∷ h.status ∷ h.count ∷ []))
   unfolding cut_frames
-  five-on = stands_to (frame_place m 5) (sym (ids_end h)) (stands_right ids _ frames-stand)
+  five_on = stands_to (frame_place m 5) (sym (ids_end h)) (stands_right ids _ frames_stand)
 
   five : Stands s (frame_place m 5) (field_bytes h.message)
   unfolding flat_map
-  five = stands_left (field_bytes h.message) _ five-on
+  five = stands_left (field_bytes h.message) _ five_on
 
-  six-on : Stands s (frame_place m 6) (flat_map field_bytes (h.status ∷ h.count ∷ []))
+  six_on : Stands s (frame_place m 6) (flat_map field_bytes (h.status ∷ h.count ∷ []))
   unfolding flat_map cut_frames
-  six-on = stands_right (field_bytes h.message) _ five-on
+  six_on = stands_right (field_bytes h.message) _ five_on
 
   six : Stands s (frame_place m 6) (field_bytes h.status)
   unfolding flat_map
-  six = stands_left (field_bytes h.status) _ six-on
+  six = stands_left (field_bytes h.status) _ six_on
 
   seven : Stands s (frame_place m 7) (field_bytes h.count)
   unfolding flat_map cut_frames
-  seven = stands_left (field_bytes h.count) [] (stands_right (field_bytes h.status) _ six-on)
+  seven = stands_left (field_bytes h.count) [] (stands_right (field_bytes h.status) _ six_on)
 
   -- the fields that are given again are the message's own
-  own-given : own_fields s m ≡ map as_given p.fields
-  own-given =
+  own_given : own_fields s m ≡ map as_given p.fields
+  own_given =
       let at = length (header_bytes h) in
       let there : Stands s at (flat_map field_bytes p.fields)
       = stands_to at (zero-add at) (stands_right (header_bytes h) (flat_map field_bytes p.fields) (stands_self s)) in
@@ -198,12 +198,12 @@ module _ (p : MessageParts) (is : IsMessage p) (out : List ℕ) where
 
     -- the opening is granted, and writes the message's header
     same-header : header_text (own_opening s m) ≡ header_bytes h
-    same-header = own-header s bytes (length m.fields) h header_is _ (frame_place m 5) (frame_place m 6) (frame_place m 7) ids-stand five six seven
+    same-header = own-header s bytes (length m.fields) h header_is _ (frame_place m 5) (frame_place m 6) (frame_place m 7) ids_stand five six seven
 
     opens : opening (own_opening s m) (length out) ≡ fine (header_text (own_opening s m))
     opens =
         let long = length-append (header_bytes h) (flat_map field_bytes p.fields) in
-        own-opening s bytes (length m.fields) h header_is _ (frame_place m 5) (frame_place m 6) (frame_place m 7) ids-stand five six seven (length out)
+        own-opening s bytes (length m.fields) h header_is _ (frame_place m 5) (frame_place m 6) (frame_place m 7) ids_stand five six seven (length out)
         (omega arith) (omega arith)
 
     -- the point that the calls lead to
@@ -211,7 +211,7 @@ module _ (p : MessageParts) (is : IsMessage p) (out : List ℕ) where
     ends =
         let long = length-append (header_bytes h) (flat_map field_bytes p.fields) in
         ap₂ (λ (x : Point) (gs : List Given). after_calls x (map adds gs ++ (closes ∷ [])))
-        (started (own_opening s m) out _ opens ∙ ap₂ (λ (t : List ℕ) (n : ℕ). point_at out t 0 n []) same-header many) own-given
+        (started (own_opening s m) out _ opens ∙ ap₂ (λ (t : List ℕ) (n : ℕ). point_at out t 0 n []) same-header many) own_given
         ∙ all_added out (header_bytes h) 0 (length p.fields) [] p.fields is.is_fields (zero-add (length p.fields)) (omega arith) (omega arith)
 
     -- so all is granted and the same bytes are written
@@ -219,7 +219,7 @@ module _ (p : MessageParts) (is : IsMessage p) (out : List ℕ) where
     rewrites =
         record {
           opens = opens;
-          adds = ap (λ (x : Point). x.given) ends ∙ sym own-given;
+          adds = ap (λ (x : Point). x.given) ends ∙ sym own_given;
           closes = ap (λ (x : Point). x.closings) ends;
           same =
               record {

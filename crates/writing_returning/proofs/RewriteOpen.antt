@@ -72,13 +72,13 @@ count_types = refl
 
 module _ (s : List ℕ) (bytes : (i : ℕ) → byte s i < 256) where
   -- a number whose first byte is below 128 lies in the lower half
-  big-low : (n at : ℕ) → byte s at < 128 → big s at (suc n) < 2 ^ (8 * n + 7)
+  big_low : (n at : ℕ) → byte s at < 128 → big s at (suc n) < 2 ^ (8 * n + 7)
   unfolding big
-  big-low zero at h = let e : at + 0 ≡ at = omega arith in rw e (omega arith)
-  big-low (suc n) at h =
+  big_low zero at h = let e : at + 0 ≡ at = omega arith in rw e (omega arith)
+  big_low (suc n) at h =
       let e : 8 * suc n + 7 ≡ 8 * n + 7 + 8 = omega arith in
       let p : 2 ^ (8 * suc n + 7) ≡ 2 ^ (8 * n + 7) * 256 = ap (λ (k : ℕ). 2 ^ k) e ∙ pow-add 2 (8 * n + 7) 8 in
-      subst (λ (k : ℕ). big s at (suc n) * 256 + byte s (at + suc n) < k) (sym p) (digits_lt (big-low n at h) (bytes (at + suc n)))
+      subst (λ (k : ℕ). big s at (suc n) * 256 + byte s (at + suc n) < k) (sym p) (digits_lt (big_low n at h) (bytes (at + suc n)))
 
   -- a frame of one number is its code and the number that stands after it, in the bytes of its value
   module _ (codes : List ℕ) (at : ℕ) (f : FieldParts) (all : all_pass one_number codes ≡ true) (i : IsFrame codes f) (st : Stands s at (field_bytes f)) where
@@ -102,36 +102,36 @@ module _ (s : List ℕ) (bytes : (i : ℕ) → byte s i < 256) where
         ap (byte s) (sym (add-zero (at + 1))) ∙ values-stand.same 0 (omega arith)
 
   -- frame 5, whose number is signed
-  number-text : (at : ℕ) (f : FieldParts) → IsFrame number_codes f → Stands s at (field_bytes f)
+  number_text_lem : (at : ℕ) (f : FieldParts) → IsFrame number_codes f → Stands s at (field_bytes f)
       → field_bytes f ≡ number_text 3 8 (bits_of 64 (twos 64 (big s (at + 1) 8)))
   unfolding all_pass width_of
-  number-text at f i st =
+  number_text_lem at f i st =
       let c : f.code ≡ 3 = eqb-true _ _ (pass_among (λ (k : ℕ). eqb k 3) number_codes f.code refl i.allowed) in
       frame_back number_codes at f number_types i st
       ∙ ap (λ (k : ℕ). number_text k (width_of k) (big s (at + 1) (width_of k))) c
       ∙ ap (number_text 3 8) (sym (bits_back 64 (big s (at + 1) 8) (big_fits s bytes 8 (at + 1))))
 
   -- frame 6, whose number is one byte
-  status-text : (at : ℕ) (f : FieldParts) → IsFrame status_codes f → Stands s at (field_bytes f) → field_bytes f ≡ number_text 0 1 (byte s (at + 1))
+  status_text : (at : ℕ) (f : FieldParts) → IsFrame status_codes f → Stands s at (field_bytes f) → field_bytes f ≡ number_text 0 1 (byte s (at + 1))
   unfolding all_pass width_of
-  status-text at f i st =
+  status_text at f i st =
       let c : f.code ≡ 0 = eqb-true _ _ (pass_among (λ (k : ℕ). eqb k 0) status_codes f.code refl i.allowed) in
       frame_back status_codes at f status_types i st
       ∙ ap (λ (k : ℕ). number_text k (width_of k) (big s (at + 1) (width_of k))) c
       ∙ ap (number_text 0 1) (one_byte s (at + 1))
 
   -- frame 7, whose type holds its number
-  count-text : (at n : ℕ) (f : FieldParts) → IsFrame count_codes f → number f.values ≡ n → Stands s at (field_bytes f)
+  count_text : (at n : ℕ) (f : FieldParts) → IsFrame count_codes f → number f.values ≡ n → Stands s at (field_bytes f)
       → field_bytes f ≡ number_text (byte s at) (width_of (byte s at)) n
-  count-text at n f i e st =
+  count_text at n f i e st =
       frame_back count_codes at f count_types i st
       ∙ ap (number_text f.code (width_of f.code)) (frame-number count_codes at f count_types i st ∙ e)
       ∙ ap (λ (k : ℕ). number_text k (width_of k) n) (sym (stands_head st))
 
-  count-holds : (at n : ℕ) (f : FieldParts) → IsFrame count_codes f → not_negative (get_or f.values 0 0) ≡ true → number f.values ≡ n
+  count_holds : (at n : ℕ) (f : FieldParts) → IsFrame count_codes f → not_negative (get_or f.values 0 0) ≡ true → number f.values ≡ n
       → Stands s at (field_bytes f) → holds f.code n ≡ true
   unfolding holds not_negative
-  count-holds at n f i sign e st =
+  count_holds at n f i sign e st =
       let w = width_of f.code in
       let some = (count_scalar f.code i.allowed).1 in
       let k = w - 1 in
@@ -140,7 +140,7 @@ module _ (s : List ℕ) (bytes : (i : ℕ) → byte s i < 256) where
       let first : byte s (at + 1) < 128
       = subst (λ (b : ℕ). b < 128) (sym (frame-first count_codes at f count_types i st some)) (ltb-true _ _ sign) in
       let is : big s (at + 1) (suc k) ≡ n = ap (big s (at + 1)) wide ∙ frame-number count_codes at f count_types i st ∙ e in
-      let low : n < 2 ^ (8 * k + 7) = subst (λ (x : ℕ). x < 2 ^ (8 * k + 7)) is (big-low k (at + 1) first) in
+      let low : n < 2 ^ (8 * k + 7) = subst (λ (x : ℕ). x < 2 ^ (8 * k + 7)) is (big_low k (at + 1) first) in
       lt-ltb _ _ (subst (λ (j : ℕ). n < 2 ^ j) half low)
 
   -- the opening that a header asks for where its frames 5 to 7 stand at these places
@@ -154,13 +154,13 @@ module _ (s : List ℕ) (bytes : (i : ℕ) → byte s i < 256) where
     unfolding header_with count_code flat_map
     own-header =
         let last : field_bytes h.count ++ [] ≡ number_text (byte s r) (width_of (byte s r)) n
-        = append-nil (field_bytes h.count) ∙ count-text r n h.count i.is_count i.declares seven in
+        = append-nil (field_bytes h.count) ∙ count_text r n h.count i.is_count i.declares seven in
         sym
         (ap (λ (l : List ℕ). frame0 ++ l)
         (flat_append field_bytes (ids_of h) (h.message ∷ h.status ∷ h.count ∷ [])
         ∙ ap₂ (λ (a b : List ℕ). a ++ b) (sym are)
-        (ap₂ (λ (a b : List ℕ). a ++ b) (number-text p h.message i.is_number five)
-        (ap₂ (λ (a b : List ℕ). a ++ b) (status-text q h.status i.is_status six) last))))
+        (ap₂ (λ (a b : List ℕ). a ++ b) (number_text_lem p h.message i.is_number five)
+        (ap₂ (λ (a b : List ℕ). a ++ b) (status_text q h.status i.is_status six) last))))
 
     -- and is granted where they fit
     pub own-opening : (room : ℕ) → length (header_bytes h) ≤ limit → length (header_bytes h) ≤ room → opening asked room ≡ fine (header_text asked)
@@ -174,5 +174,5 @@ module _ (s : List ℕ) (bytes : (i : ℕ) → byte s i < 256) where
         (subst (λ (x : ℕ). status_taken x ≡ true) stat i.known)
         (subst (λ (c : ℕ). among c count_codes ≡ true) code i.is_count.allowed)
         i.taken
-        (subst (λ (c : ℕ). holds c n ≡ true) code (count-holds r n h.count i.is_count i.sign i.declares seven))
+        (subst (λ (c : ℕ). holds c n ≡ true) code (count_holds r n h.count i.is_count i.sign i.declares seven))
         (omega arith) (omega arith)

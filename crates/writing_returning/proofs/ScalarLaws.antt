@@ -134,22 +134,22 @@ scalar_is (NotNumber c) h = absurd (false≢true h)
 
 module _ (f : FieldParts) where
   -- the marks stand in the field's bytes after the code and the counts
-  marks-there : Stands (field_bytes f) (0 + 1 + length (joined f.counts)) (joined f.marks ++ f.values)
-  marks-there = stands_right (joined f.counts) (joined f.marks ++ f.values) (stands_tail (stands_self (field_bytes f)))
+  marks_there : Stands (field_bytes f) (0 + 1 + length (joined f.counts)) (joined f.marks ++ f.values)
+  marks_there = stands_right (joined f.counts) (joined f.marks ++ f.values) (stands_tail (stands_self (field_bytes f)))
 
   -- asking judges a field of the manual, and then tells its value
   alone : IsField f → value_alone (field_bytes f) ≡ scalar_of (field_bytes f) (field_at 0 f)
   alone is = rw (field_complete f is (stands_self (field_bytes f))) refl
 
   -- the number that its values write
-  values-read : (n x : ℕ) → f.values ≡ big_bytes n x → x < 2 ^ (8 * n) → big (field_bytes f) (field_at 0 f).first n ≡ x
-  values-read n x e h = number_read n x h (subst (Stands (field_bytes f) (field_at 0 f).first) e (values_there f (stands_self (field_bytes f))))
+  values_read : (n x : ℕ) → f.values ≡ big_bytes n x → x < 2 ^ (8 * n) → big (field_bytes f) (field_at 0 f).first n ≡ x
+  values_read n x e h = number_read n x h (subst (Stands (field_bytes f) (field_at 0 f).first) e (values_there f (stands_self (field_bytes f))))
 
   -- a signed number
-  signed-read : (n : ℕ) (z : ℤ) → f.values ≡ big_bytes n (bits_of (8 * n) z) → 1 ≤ n → InWidth (8 * n) z
+  signed_read : (n : ℕ) (z : ℤ) → f.values ≡ big_bytes n (bits_of (8 * n) z) → 1 ≤ n → InWidth (8 * n) z
       → twos (8 * n) (big (field_bytes f) (field_at 0 f).first n) ≡ z
-  signed-read n z e h k =
-      ap (twos (8 * n)) (values-read n (bits_of (8 * n) z) e (bits_held (8 * n) z (omega arith) k)) ∙ signed_back (8 * n) z (omega arith) k
+  signed_read n z e h k =
+      ap (twos (8 * n)) (values_read n (bits_of (8 * n) z) e (bits_held (8 * n) z (omega arith) k)) ∙ signed_back (8 * n) z (omega arith) k
 
 -- a float that is no NaN, of either format, is told from its bits
 float_told : (f : Format) (x : Ieee.Float) → T (fits f x) → is_nan x ≡ false → (other : Scalar) (to : Ieee.Float → Scalar)
@@ -195,37 +195,37 @@ unfolding flat_map
 mark_back c m n x h =
     let l = bytes_of_mark m (kind_of m.unit) in
     let f = marked_parts c (l ∷ []) n x in
-    mark_read (field_bytes f) (0 + 1) m (kind_of m.unit) refl h (stands_left l [] (stands_left (l ++ []) (big_bytes n x) (marks-there f)))
+    mark_read (field_bytes f) (0 + 1) m (kind_of m.unit) refl h (stands_left l [] (stands_left (l ++ []) (big_bytes n x) (marks_there f)))
 
 -- and the value of a scalar's field is the scalar
 parts_back : (v : Scalar) → writable v ≡ true → Held v → scalar_of (field_bytes (scalar_parts v)) (field_at 0 (scalar_parts v)) ≡ fine v
 unfolding code_of scalar_bytes writable scalar_of float_of double_of with_float with_double number_after
-parts_back (Byte z) h k = ap (λ (y : ℤ). fine (Byte y)) (signed-read (scalar_parts (Byte z)) 1 z refl (omega arith) k)
-parts_back (Short z) h k = ap (λ (y : ℤ). fine (Short y)) (signed-read (scalar_parts (Short z)) 2 z refl (omega arith) k)
-parts_back (Int z) h k = ap (λ (y : ℤ). fine (Int y)) (signed-read (scalar_parts (Int z)) 4 z refl (omega arith) k)
-parts_back (Long z) h k = ap (λ (y : ℤ). fine (Long y)) (signed-read (scalar_parts (Long z)) 8 z refl (omega arith) k)
+parts_back (Byte z) h k = ap (λ (y : ℤ). fine (Byte y)) (signed_read (scalar_parts (Byte z)) 1 z refl (omega arith) k)
+parts_back (Short z) h k = ap (λ (y : ℤ). fine (Short y)) (signed_read (scalar_parts (Short z)) 2 z refl (omega arith) k)
+parts_back (Int z) h k = ap (λ (y : ℤ). fine (Int y)) (signed_read (scalar_parts (Int z)) 4 z refl (omega arith) k)
+parts_back (Long z) h k = ap (λ (y : ℤ). fine (Long y)) (signed_read (scalar_parts (Long z)) 8 z refl (omega arith) k)
 parts_back (Float x) h k =
-    ap (λ (y : ℕ). fine (float_of y)) (values-read (scalar_parts (Float x)) 4 (to_bits binary32 x) refl (to_bits-lt binary32 x k))
+    ap (λ (y : ℕ). fine (float_of y)) (values_read (scalar_parts (Float x)) 4 (to_bits binary32 x) refl (to_bits-lt binary32 x k))
     ∙ ap fine (float_told binary32 x k (not-true (is_nan x) h) (NotNumber 4) Float)
 parts_back (Double x) h k =
-    ap (λ (y : ℕ). fine (double_of y)) (values-read (scalar_parts (Double x)) 8 (to_bits binary64 x) refl (to_bits-lt binary64 x k))
+    ap (λ (y : ℕ). fine (double_of y)) (values_read (scalar_parts (Double x)) 8 (to_bits binary64 x) refl (to_bits-lt binary64 x k))
     ∙ ap fine (float_told binary64 x k (not-true (is_nan x) h) (NotNumber 5) Double)
 parts_back (Boolean true) h k =
     let f = scalar_parts (Boolean true) in ap (λ (y : ℕ). fine (Boolean (ltb 0 y))) (big_number f.values (values_there f (stands_self (field_bytes f))))
 parts_back (Boolean false) h k =
     let f = scalar_parts (Boolean false) in ap (λ (y : ℕ). fine (Boolean (ltb 0 y))) (big_number f.values (values_there f (stands_self (field_bytes f))))
-parts_back (Char8 n) h k = ap (λ (y : ℕ). fine (Char8 y)) (values-read (scalar_parts (Char8 n)) 1 n refl k)
-parts_back (Char16 n) h k = ap (λ (y : ℕ). fine (Char16 y)) (values-read (scalar_parts (Char16 n)) 2 n refl k)
+parts_back (Char8 n) h k = ap (λ (y : ℕ). fine (Char8 y)) (values_read (scalar_parts (Char8 n)) 1 n refl k)
+parts_back (Char16 n) h k = ap (λ (y : ℕ). fine (Char16 y)) (values_read (scalar_parts (Char16 n)) 2 n refl k)
 parts_back (FloatUnit x m) h k =
     let f = scalar_parts (FloatUnit x m) in
     let both = and_true (not (is_nan x)) (mark_taken m (kind_of m.unit)) h in
-    ap (λ (y : ℕ). fine (with_float y (mark_at (field_bytes f) (0 + 1)))) (values-read f 4 (to_bits binary32 x) refl (to_bits-lt binary32 x k))
+    ap (λ (y : ℕ). fine (with_float y (mark_at (field_bytes f) (0 + 1)))) (values_read f 4 (to_bits binary32 x) refl (to_bits-lt binary32 x k))
     ∙ ap (λ (y : Mark). fine (with_float (to_bits binary32 x) y)) (mark_back 25 m 4 (to_bits binary32 x) both.1)
     ∙ ap fine (float_told binary32 x k (not-true (is_nan x) both.0) (NotNumber 25) (λ y. FloatUnit y m))
 parts_back (DoubleUnit x m) h k =
     let f = scalar_parts (DoubleUnit x m) in
     let both = and_true (not (is_nan x)) (mark_taken m (kind_of m.unit)) h in
-    ap (λ (y : ℕ). fine (with_double y (mark_at (field_bytes f) (0 + 1)))) (values-read f 8 (to_bits binary64 x) refl (to_bits-lt binary64 x k))
+    ap (λ (y : ℕ). fine (with_double y (mark_at (field_bytes f) (0 + 1)))) (values_read f 8 (to_bits binary64 x) refl (to_bits-lt binary64 x k))
     ∙ ap (λ (y : Mark). fine (with_double (to_bits binary64 x) y)) (mark_back 26 m 8 (to_bits binary64 x) both.1)
     ∙ ap fine (float_told binary64 x k (not-true (is_nan x) both.0) (NotNumber 26) (λ y. DoubleUnit y m))
 parts_back (NotNumber c) h k = absurd (false≢true h)

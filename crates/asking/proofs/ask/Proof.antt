@@ -4,8 +4,8 @@ use Rattle.sim0mq.specs.Answer.{fine}
 use Rattle.sim0mq.specs.Table.{row_size}
 use Rattle.sim0mq.specs.Views.{judged}
 use Rattle.reading_header.specs.declared.Answer.{Answer}
-use Rattle.reading_front.proofs.FrontCases.{told-refused, told-accepted}
-use Rattle.asking.proofs.FindCases.{ask-closed, ask-refused, ask-none, ask-found}
+use Rattle.reading_front.proofs.FrontCases.{told_refused, told_accepted}
+use Rattle.asking.proofs.FindCases.{ask_closed, ask-refused, ask-none, ask-found}
 use borrow.Author.Rules.{rules}
 use Rattle.asking.proofs.ask.Statement.{statement}
 use Rattle.asking.proofs.ask.Tie as tie
@@ -33,7 +33,7 @@ enum_told c = search rules
 
 returns : tie.Need-returns
 returns c =
-    let h = told-accepted _ _ _ _ (sym (ap (λ (x : Answer). x.said) c.before.before.before.before.before.before.before.before.before.before.opened.ensures) ∙ c.before.before.before.before.before.before.before.before.said2.given.1) in
+    let h = told_accepted _ _ _ _ (sym (ap (λ (x : Answer). x.said) c.before.before.before.before.before.before.before.before.before.before.opened.ensures) ∙ c.before.before.before.before.before.before.before.before.said2.given.1) in
     let said = sym c.before.before.before.before.before.payload.ensures.0.0 ∙ ap judged c.before.before.enum_told.given.1 in
     ask-none _ _ h.0 h.1 _ _ h.2 h.3 _ said c.if1.true
 
@@ -42,19 +42,19 @@ field-in-requires c κs = search rules
 
 returns-2 : tie.Need-returns-2
 returns-2 c =
-    let stopped = told-refused _ _ _ _ (sym (ap (λ (x : Answer). x.said) c.before.before.before.opened.ensures) ∙ c.before.said.given.1) in
-    ask-closed _ _ _ _ stopped
+    let stopped = told_refused _ _ _ _ (sym (ap (λ (x : Answer). x.said) c.before.before.before.opened.ensures) ∙ c.before.said.given.1) in
+    ask_closed _ _ _ _ stopped
 
 returns-3 : tie.Need-returns-3
 returns-3 c =
-    let h = told-accepted _ _ _ _ (sym (ap (λ (x : Answer). x.said) c.before.before.before.before.before.before.before.before.before.opened.ensures) ∙ c.before.before.before.before.before.before.before.said2.given.1) in
+    let h = told_accepted _ _ _ _ (sym (ap (λ (x : Answer). x.said) c.before.before.before.before.before.before.before.before.before.opened.ensures) ∙ c.before.before.before.before.before.before.before.said2.given.1) in
     let said = sym c.before.before.before.before.payload.ensures.0.0 ∙ ap judged c.before.r.given.1 in
     ask-refused _ _ h.0 h.1 _ _ h.2 h.3 _ _ said
 
 returns-4 : tie.Need-returns-4
 unfolding row_size
 returns-4 c =
-    let h = told-accepted _ _ _ _ (sym (ap (λ (x : Answer). x.said) c.before.before.before.before.before.before.before.before.before.before.before.before.opened.ensures) ∙ c.before.before.before.before.before.before.before.before.before.before.said2.given.1) in
+    let h = told_accepted _ _ _ _ (sym (ap (λ (x : Answer). x.said) c.before.before.before.before.before.before.before.before.before.before.before.before.opened.ensures) ∙ c.before.before.before.before.before.before.before.before.before.before.said2.given.1) in
     let said = sym c.before.before.before.before.before.before.before.payload.ensures.0.0 ∙ ap judged c.before.before.before.before.enum_told.given.1 in
     let found = ask-found _ _ h.0 h.1 _ _ h.2 h.3 _ said _ _ refl c.before.before.before.before.before.before.before.payload.ensures.1 c.before.before.if1.false in
     ap fine c.field_in.ensures ∙ found

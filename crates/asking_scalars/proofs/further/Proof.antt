@@ -11,7 +11,7 @@ use Rattle.sim0mq_kinds.specs.declared.Scalar.{Scalar}
 use Rattle.sim0mq_kinds.specs.declared.Scalar.TheVariants.{Boolean, Char8, Char16}
 use Rattle.sim0mq_kinds.specs.Kinds.{with_float, with_double}
 use Rattle.asking_scalars.specs.Scalars.{scalar_of}
-use Rattle.asking_scalars.proofs.ScalarCases.{number_is, by_code, mark-there, no_scalar}
+use Rattle.asking_scalars.proofs.ScalarCases.{number_is, by_code, mark_there, no_scalar}
 use Rattle.asking_scalars.proofs.further.Statement.{statement}
 use Rattle.asking_scalars.proofs.further.Tie as tie
 
@@ -50,11 +50,11 @@ cast-float-with c = search rules
 
 add-mark-at : tie.Need-overflow-add-mark-at
 unfolding counts_of width_of marking_of
-add-mark-at c = let there = mark-there _ _ c.before.before.before.before.before.before.before.before.before.before.before.requires.0 25 c.before.before.if4.true refl refl (omega arith) in search rules
+add-mark-at c = let there = mark_there _ _ c.before.before.before.before.before.before.before.before.before.before.before.requires.0 25 c.before.before.if4.true refl refl (omega arith) in search rules
 
 mark-at-requires : tie.Need-mark-at-requires
 unfolding counts_of width_of marking_of
-mark-at-requires c κs = mark-there _ _ c.before.before.before.before.before.before.before.before.before.before.before.requires.0 25 c.before.before.if4.true refl refl (omega arith)
+mark-at-requires c κs = mark_there _ _ c.before.before.before.before.before.before.before.before.before.before.before.requires.0 25 c.before.before.if4.true refl refl (omega arith)
 
 float-with-requires : tie.Need-float-with-requires
 float-with-requires c κs = search rules
@@ -68,11 +68,11 @@ number-requires-5 c κs = search rules
 
 add-mark-at-2 : tie.Need-overflow-add-mark-at-2
 unfolding counts_of width_of marking_of
-add-mark-at-2 c = let there = mark-there _ _ c.before.before.before.before.before.before.before.before.before.before.before.before.before.requires.0 26 c.before.before.if5.true refl refl (omega arith) in search rules
+add-mark-at-2 c = let there = mark_there _ _ c.before.before.before.before.before.before.before.before.before.before.before.before.before.requires.0 26 c.before.before.if5.true refl refl (omega arith) in search rules
 
 mark-at-requires-2 : tie.Need-mark-at-requires-2
 unfolding counts_of width_of marking_of
-mark-at-requires-2 c κs = mark-there _ _ c.before.before.before.before.before.before.before.before.before.before.before.before.before.requires.0 26 c.before.before.if5.true refl refl (omega arith)
+mark-at-requires-2 c κs = mark_there _ _ c.before.before.before.before.before.before.before.before.before.before.before.before.before.requires.0 26 c.before.before.if5.true refl refl (omega arith)
 
 double-with-requires : tie.Need-double-with-requires
 double-with-requires c κs = search rules

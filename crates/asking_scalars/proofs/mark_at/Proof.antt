@@ -3,7 +3,7 @@ use borrow.Author.Rules.{rules}
 use mathlib.Core.Path.{sym, ap}
 use Rattle.asking_scalars.specs.Scalars.{mark_of}
 use Rattle.sim0mq_marks.proofs.MarkCases.{kind_plain, kind_between, kind_above}
-use Rattle.asking_scalars.proofs.ScalarCases.{mark-money, mark-per}
+use Rattle.asking_scalars.proofs.ScalarCases.{mark_money, mark_per}
 use native.Mathlib.Omega.{arith}
 use Rattle.asking_scalars.proofs.mark_at.Statement.{statement}
 use Rattle.asking_scalars.proofs.mark_at.Tie as tie
@@ -45,10 +45,10 @@ shared-slice-read-display : tie.Need-shared-slice-read-display
 shared-slice-read-display c = search rules
 
 returns-4 : tie.Need-returns-4
-returns-4 c = mark-per _ _ _ c.before.before.before.before.before.before.before.before.requires c.before.before.number.ensures.0 (omega arith) (omega arith)
+returns-4 c = mark_per _ _ _ c.before.before.before.before.before.before.before.before.requires c.before.before.number.ensures.0 (omega arith) (omega arith)
 
 returns-5 : tie.Need-returns-5
-returns-5 c = mark-money _ _ _ c.before.before.before.before.before.before.before.requires c.before.number.ensures.0 (omega arith)
+returns-5 c = mark_money _ _ _ c.before.before.before.before.before.before.before.requires c.before.number.ensures.0 (omega arith)
 
 pub mark-at-spec : {M : Type 1} → statement M
 mark-at-spec =

@@ -6,7 +6,7 @@ use lib.ListN.{length, drop, length-take, length-drop}
 use Rattle.sim0mq.specs.Blank.{blanked}
 use Rattle.sim0mq.specs.Table.{placed, row_size}
 use Rattle.blanking.specs.Blanking.{fields_of}
-use Rattle.blanking.proofs.BlankCases.{Left, left_start, left-row, left-stands, left-renewed, left_end}
+use Rattle.blanking.proofs.BlankCases.{Left, left_start, left_row, left_stands, left_renewed, left_end}
 use borrow.Author.Rules.{rules}
 use Rattle.blanking.proofs.blank_fields.Statement.{statement}
 use Rattle.blanking.proofs.blank_fields.Tie as tie
@@ -24,25 +24,25 @@ loop-holds c = (left_start _ _ _ _ _ c.before.before.before.requires, refl)
 mul-wide32 : tie.Need-overflow-mul-wide32 invariant-loop decreases-loop
 unfolding row_size
 mul-wide32 c =
-    let kept = (left-row _ _ _ _ _ _ _ c.before.loop.invariant.0 c.loop-test.true).2 in
+    let kept = (left_row _ _ _ _ _ _ _ c.before.loop.invariant.0 c.loop-test.true).2 in
     omega arith
 
 add-wide32 : tie.Need-overflow-add-wide32 invariant-loop decreases-loop
 unfolding row_size
 add-wide32 c =
-    let kept = (left-row _ _ _ _ _ _ _ c.before.loop.invariant.0 c.loop-test.true).2 in
+    let kept = (left_row _ _ _ _ _ _ _ c.before.loop.invariant.0 c.loop-test.true).2 in
     omega arith
 
 mul-wide32-2 : tie.Need-overflow-mul-wide32-2 invariant-loop decreases-loop
 unfolding row_size
 mul-wide32-2 c =
-    let kept = (left-row _ _ _ _ _ _ _ c.before.loop.invariant.0 c.loop-test.true).2 in
+    let kept = (left_row _ _ _ _ _ _ _ c.before.loop.invariant.0 c.loop-test.true).2 in
     omega arith
 
 shared-slice-read-wide32 : tie.Need-shared-slice-read-wide32 invariant-loop decreases-loop
 unfolding row_size
 shared-slice-read-wide32 c =
-    let kept = (left-row _ _ _ _ _ _ _ c.before.before.loop.invariant.0 c.before.loop-test.true).2 in
+    let kept = (left_row _ _ _ _ _ _ _ c.before.before.loop.invariant.0 c.before.loop-test.true).2 in
     omega arith
 
 wide32-requires : tie.Need-wide32-requires invariant-loop decreases-loop
@@ -51,25 +51,25 @@ wide32-requires c κs = search rules
 mul-wide32-3 : tie.Need-overflow-mul-wide32-3 invariant-loop decreases-loop
 unfolding row_size
 mul-wide32-3 c =
-    let kept = (left-row _ _ _ _ _ _ _ c.before.before.before.loop.invariant.0 c.before.before.loop-test.true).2 in
+    let kept = (left_row _ _ _ _ _ _ _ c.before.before.before.loop.invariant.0 c.before.before.loop-test.true).2 in
     omega arith
 
 add-wide32-2 : tie.Need-overflow-add-wide32-2 invariant-loop decreases-loop
 unfolding row_size
 add-wide32-2 c =
-    let kept = (left-row _ _ _ _ _ _ _ c.before.before.before.loop.invariant.0 c.before.before.loop-test.true).2 in
+    let kept = (left_row _ _ _ _ _ _ _ c.before.before.before.loop.invariant.0 c.before.before.loop-test.true).2 in
     omega arith
 
 mul-wide32-4 : tie.Need-overflow-mul-wide32-4 invariant-loop decreases-loop
 unfolding row_size
 mul-wide32-4 c =
-    let kept = (left-row _ _ _ _ _ _ _ c.before.before.before.loop.invariant.0 c.before.before.loop-test.true).2 in
+    let kept = (left_row _ _ _ _ _ _ _ c.before.before.before.loop.invariant.0 c.before.before.loop-test.true).2 in
     omega arith
 
 shared-slice-read-wide32-2 : tie.Need-shared-slice-read-wide32-2 invariant-loop decreases-loop
 unfolding row_size
 shared-slice-read-wide32-2 c =
-    let kept = (left-row _ _ _ _ _ _ _ c.before.before.before.before.loop.invariant.0 c.before.before.before.loop-test.true).2 in
+    let kept = (left_row _ _ _ _ _ _ _ c.before.before.before.before.loop.invariant.0 c.before.before.before.loop-test.true).2 in
     omega arith
 
 wide32-requires-2 : tie.Need-wide32-requires-2 invariant-loop decreases-loop
@@ -80,7 +80,7 @@ unfolding row_size
 sub-renew c =
     let inv = c.before.before.before.before.before.loop.invariant.0 in
     let turn = c.before.before.before.before.loop-test.true in
-    let stands = left-stands _ _ _ _ _ _ _ inv turn _ _ c.before.before.wide32.ensures.0 c.wide322.ensures.0 in
+    let stands = left_stands _ _ _ _ _ _ _ inv turn _ _ c.before.before.wide32.ensures.0 c.wide322.ensures.0 in
     omega (arith, stands.0, stands.1)
 
 part-renew-start : tie.Need-slice-bounds-renew-start invariant-loop decreases-loop
@@ -88,7 +88,7 @@ unfolding row_size
 part-renew-start c =
     let inv = c.before.before.before.before.before.loop.invariant.0 in
     let turn = c.before.before.before.before.loop-test.true in
-    let stands = left-stands _ _ _ _ _ _ _ inv turn _ _ c.before.before.wide32.ensures.0 c.wide322.ensures.0 in
+    let stands = left_stands _ _ _ _ _ _ _ inv turn _ _ c.before.before.wide32.ensures.0 c.wide322.ensures.0 in
     omega (arith, stands.0, stands.1)
 
 part-renew-end : tie.Need-slice-bounds-renew-end invariant-loop decreases-loop
@@ -96,7 +96,7 @@ unfolding row_size
 part-renew-end c =
     let inv = c.before.before.before.before.before.loop.invariant.0 in
     let turn = c.before.before.before.before.loop-test.true in
-    let stands = left-stands _ _ _ _ _ _ _ inv turn _ _ c.before.before.wide32.ensures.0 c.wide322.ensures.0 in
+    let stands = left_stands _ _ _ _ _ _ _ inv turn _ _ c.before.before.wide32.ensures.0 c.wide322.ensures.0 in
     omega (arith, stands.0, stands.1)
 
 renew-requires : tie.Need-renew-requires invariant-loop decreases-loop
@@ -106,7 +106,7 @@ renew-requires c κs =
     let turn = c.before.before.before.before.before.before.loop-test.true in
     let first = c.before.before.before.before.wide32.ensures.0 in
     let size = c.before.before.wide322.ensures.0 in
-    let stands = left-stands _ _ _ _ _ _ _ inv turn _ _ first size in
+    let stands = left_stands _ _ _ _ _ _ _ inv turn _ _ first size in
     simp (length-take, length-drop) (omega (arith, stands.0, stands.1, inv.room))
 
 add_at : tie.Need-overflow-add-at invariant-loop decreases-loop
@@ -116,7 +116,7 @@ add_at c =
     let turn = c.before.before.before.before.before.before.before.before.before.loop-test.true in
     let first = c.before.before.before.before.before.before.before.wide32.ensures.0 in
     let size = c.before.before.before.before.before.wide322.ensures.0 in
-    omega (arith, (left-stands _ _ _ _ _ _ _ inv turn _ _ first size).1)
+    omega (arith, (left_stands _ _ _ _ _ _ _ inv turn _ _ first size).1)
 
 add-k : tie.Need-overflow-add-k invariant-loop decreases-loop
 add-k c = search rules
@@ -132,7 +132,7 @@ loop-again c =
     let first = c.before.before.before.before.before.before.before.wide32.ensures.0 in
     let size = c.before.before.before.before.before.wide322.ensures.0 in
     let renewed = c.before.before.renew in
-    (left-renewed _ _ _ _ _ _ _ inv.0 turn _ _ renewed.new.1.0 first size renewed.ensures (omega arith), omega arith)
+    (left_renewed _ _ _ _ _ _ _ inv.0 turn _ _ renewed.new.1.0 first size renewed.ensures (omega arith), omega arith)
 
 same_length : tie.Need-same-length invariant-loop decreases-loop
 same_length c = search rules

@@ -5,7 +5,7 @@ use mathlib.Core.Path.{ap}
 use lib.ListN.{length}
 use Rattle.senders_book.specs.Book.{book_places}
 use Rattle.senders_book.specs.declared.Book.{Book}
-use Rattle.boundary_books.proofs.ReadLaws.{Reading, reading_start, reading-turn, reading-end}
+use Rattle.boundary_books.proofs.ReadLaws.{Reading, reading_start, reading_turn, reading_end}
 use Rattle.boundary_books.proofs.book_of.Statement.{statement}
 use Rattle.boundary_books.proofs.book_of.Tie as tie
 
@@ -40,10 +40,10 @@ loop-less : tie.Need-loop-smaller invariant-loop decreases-loop
 loop-less c = search rules
 
 loop-again : tie.Need-loop-preserved invariant-loop decreases-loop
-loop-again c = reading-turn c.before.before.loop.invariant _ c.before.loop-test.true c.sender-at.ensures
+loop-again c = reading_turn c.before.before.loop.invariant _ c.before.loop-test.true c.sender-at.ensures
 
 returns : tie.Need-returns invariant-loop decreases-loop
-returns c = reading-end c.before.loop.invariant c.loop-test.false
+returns c = reading_end c.before.loop.invariant c.loop-test.false
 
 pub book-of-spec : {M : Type 1} → statement M
 book-of-spec = tie.close (tie.spec invariant-loop decreases-loop empty-requires loop-holds mul-sender-at sender-at-requires mul-places array-set-from-places add-i loop-less loop-again returns)

@@ -3,7 +3,7 @@ use borrow.Author.Rules.{rules}
 use native.Mathlib.Omega.{arith}
 use Prim.Native.Nat.{◌-◌}
 use Rattle.senders_book.specs.Book.{book_places}
-use Rattle.boundary_books.proofs.PutLaws.{Putting, putting_start, putting_short, putting-turn, putting-end}
+use Rattle.boundary_books.proofs.PutLaws.{Putting, putting_start, putting_short, putting_turn, putting_end}
 use Rattle.boundary_books.proofs.put_book.Statement.{statement}
 use Rattle.boundary_books.proofs.put_book.Tie as tie
 
@@ -48,13 +48,13 @@ loop-again : tie.Need-loop-preserved invariant-loop decreases-loop
 loop-again c =
     let s = c.before.before.before.before in
     let l = s.before.before.before in
-    putting-turn l.loop.invariant l.before.before.if1.false _ _ s.before.before.loop-test.true s.sender-numbers.ensures c.before.before.put-row.ensures
+    putting_turn l.loop.invariant l.before.before.if1.false _ _ s.before.before.loop-test.true s.sender-numbers.ensures c.before.before.put-row.ensures
 
 same_length : tie.Need-same-length invariant-loop decreases-loop
 same_length c = c.before.loop.invariant.long
 
 returns-2 : tie.Need-returns-2 invariant-loop decreases-loop
-returns-2 c = putting-end c.before.loop.invariant c.before.before.before.if1.false c.loop-test.false
+returns-2 c = putting_end c.before.loop.invariant c.before.before.before.if1.false c.loop-test.false
 
 pub put-book-spec : {M : Type 1} → statement M
 put-book-spec = tie.close (tie.spec invariant-loop decreases-loop returns loop-holds mul-e array-copy-out-e sender-numbers-requires mul-put-row put-row-requires add-i loop-less loop-again same_length returns-2)

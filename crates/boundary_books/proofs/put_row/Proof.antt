@@ -4,7 +4,7 @@ use native.Mathlib.Omega.{arith}
 use Prim.Native.Nat.{◌-◌}
 use mathlib.Core.Path.{◌≡◌, refl}
 use lib.ListN.{length}
-use Rattle.boundary_books.proofs.PutLaws.{Rowing, rowing_start, rowing-turn, rowing-end}
+use Rattle.boundary_books.proofs.PutLaws.{Rowing, rowing_start, rowing_turn, rowing_end}
 use Rattle.boundary_books.proofs.put_row.Statement.{statement}
 use Rattle.boundary_books.proofs.put_row.Tie as tie
 
@@ -41,7 +41,7 @@ loop-less c = search rules
 loop-again : tie.Need-loop-preserved invariant-loop decreases-loop
 loop-again c =
     let eight : length c.before.before.args.t1 ≡ 8 = search rules in
-    rowing-turn c.before.loop.invariant (omega (arith, c.before.before.requires.0)) _ refl (omega (arith, c.loop-test.true))
+    rowing_turn c.before.loop.invariant (omega (arith, c.before.before.requires.0)) _ refl (omega (arith, c.loop-test.true))
 
 same_length : tie.Need-same-length invariant-loop decreases-loop
 same_length c = search rules
@@ -49,7 +49,7 @@ same_length c = search rules
 returns : tie.Need-returns invariant-loop decreases-loop
 returns c =
     let eight : length c.before.before.args.t1 ≡ 8 = search rules in
-    rowing-end c.before.loop.invariant (omega (arith, c.before.before.requires.0)) (omega (arith, c.loop-test.false))
+    rowing_end c.before.loop.invariant (omega (arith, c.before.before.requires.0)) (omega (arith, c.loop-test.false))
 
 pub put-row-spec : {M : Type 1} → statement M
 put-row-spec = tie.close (tie.spec invariant-loop decreases-loop loop-holds mul-numbers array-read-numbers add-numbers mul-numbers-2 slice-write-numbers add-k loop-less loop-again same_length returns)

@@ -1,6 +1,6 @@
 -- The slices have room for a ledger and a book, or are refused; then the answer is that of mustering by these.
 use borrow.Author.Rules.{rules}
-use Rattle.boundary_ledger.proofs.CallLaws.{short_decks, short_book, mustered, muster-refused, muster-accepted}
+use Rattle.boundary_ledger.proofs.CallLaws.{short_decks, short_book, mustered, muster_refused, muster_accepted}
 use Rattle.boundary_ledger.proofs.muster_in.Statement.{statement}
 use Rattle.boundary_ledger.proofs.muster_in.Tie as tie
 
@@ -53,7 +53,7 @@ returns-3 c =
     let room = k.before.before.before.before.before in
     let a = room.before.before.before.before.before.args in
     let is = mustered a.decks.now a.book.now a.message.now _ _ _ k.before.before.before.ledger-of.ensures k.before.book-of.ensures k.muster.ensures in
-    muster-refused _ _ _ room.before.if1.false room.if2.false _ is _ c.before.said.given.1
+    muster_refused _ _ _ room.before.if1.false room.if2.false _ is _ c.before.said.given.1
 
 same-length-3 : tie.Need-same-length-3
 same-length-3 c = search rules
@@ -69,7 +69,7 @@ returns-4 c =
     let room = k.before.before.before.before.before in
     let a = room.before.before.before.before.before.args in
     let is = mustered a.decks.now a.book.now a.message.now _ _ _ k.before.before.before.ledger-of.ensures k.before.book-of.ensures k.muster.ensures in
-    muster-accepted _ _ _ room.before.if1.false room.if2.false _ is _ _ _ v.said2.given.1 s.put-decks.ensures c.before.before.put-book.ensures
+    muster_accepted _ _ _ room.before.if1.false room.if2.false _ is _ _ _ v.said2.given.1 s.put-decks.ensures c.before.before.put-book.ensures
 
 pub muster-in-spec : {M : Type 1} → statement M
 muster-in-spec = tie.close (tie.spec refuse-requires returns refuse-requires-2 returns-2 ledger-of-requires book-of-requires muster-requires enum-known-said enum-known-said-2 put-decks-requires put-book-requires same_length same-length-2 returns-3 same-length-3 same-length-4 returns-4)

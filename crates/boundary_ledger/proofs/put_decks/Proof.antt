@@ -5,7 +5,7 @@ use Prim.Native.Nat.{◌-◌}
 use native.Mathlib.Nat.{zero-add}
 use mathlib.Core.Path.{◌≡◌, sym, ◌∙◌}
 use lib.ListN.{length}
-use Rattle.boundary_books.proofs.PutLaws.{Rowing, rowing_start, rowing-turn, rowing-end}
+use Rattle.boundary_books.proofs.PutLaws.{Rowing, rowing_start, rowing_turn, rowing_end}
 use Rattle.boundary_ledger.proofs.DeckLaws.{front_stored}
 use Rattle.boundary_ledger.proofs.put_decks.Statement.{statement}
 use Rattle.boundary_ledger.proofs.put_decks.Tie as tie
@@ -40,7 +40,7 @@ loop-less c = search rules
 loop-again : tie.Need-loop-preserved invariant-loop decreases-loop
 loop-again c =
     let all : length c.before.before.args.t1 ≡ 16 = search rules in
-    rowing-turn c.before.loop.invariant (omega (arith, c.before.before.requires)) _ (sym (zero-add c.before.loop.k)) (omega (arith, c.loop-test.true))
+    rowing_turn c.before.loop.invariant (omega (arith, c.before.before.requires)) _ (sym (zero-add c.before.loop.k)) (omega (arith, c.loop-test.true))
 
 same_length : tie.Need-same-length invariant-loop decreases-loop
 same_length c = c.before.loop.invariant.long
@@ -48,7 +48,7 @@ same_length c = c.before.loop.invariant.long
 returns : tie.Need-returns invariant-loop decreases-loop
 returns c =
     let all : length c.before.before.args.t1 ≡ 16 = search rules in
-    rowing-end c.before.loop.invariant (omega (arith, c.before.before.requires)) (omega (arith, c.loop-test.false)) ∙ front_stored _ _
+    rowing_end c.before.loop.invariant (omega (arith, c.before.before.requires)) (omega (arith, c.loop-test.false)) ∙ front_stored _ _
 
 pub put-decks-spec : {M : Type 1} → statement M
 put-decks-spec = tie.close (tie.spec invariant-loop decreases-loop loop-holds mul-decks array-read-decks mul-decks-2 slice-write-decks add-k loop-less loop-again same_length returns)

@@ -3,7 +3,7 @@
 use borrow.Author.Rules.{rules}
 use mathlib.Core.Path.{◌∙◌}
 use Rattle.boundary_giving.proofs.GivenLaws.{given_short, given_room, returned_short, answered_short, both_told}
-use Rattle.boundary_recorder.proofs.RecorderLaws.{added-as, added-in}
+use Rattle.boundary_recorder.proofs.RecorderLaws.{added_as, added_in_lem}
 use Rattle.boundary_recorder.proofs.sim0mq_recording_add.Statement.{statement}
 use Rattle.boundary_recorder.proofs.sim0mq_recording_add.Tie as tie
 
@@ -30,8 +30,8 @@ returns-2 c =
     let a = c.before.before.before.before.before.before in
     let w = a.before.before in
     let args = w.before.before.before.before.before.args in
-    let e = added-as _ _ w.recorder-of.ensures _ _ _ a.add.ensures.0 in
-    let out = added-in _ _ w.recorder-of.ensures args.message.now args.out.now _ a.add.ensures.1 in
+    let e = added_as _ _ w.recorder-of.ensures _ _ _ a.add.ensures.0 in
+    let out = added_in_lem _ _ w.recorder-of.ensures args.message.now args.out.now _ a.add.ensures.1 in
     let told = both_told 6 _ _ _ _ _ e c.before.before.give-recorded.ensures in
     (told.0, (out ∙ given_room _ _ _ _ w.before.if1.false, told.1))
 

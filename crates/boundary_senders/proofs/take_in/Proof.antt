@@ -1,6 +1,6 @@
 -- The slice has room for a book, or is refused; then the answer is that of taking into its book.
 use borrow.Author.Rules.{rules}
-use Rattle.boundary_senders.proofs.CallLaws.{take_short, took, take-refused, take-accepted}
+use Rattle.boundary_senders.proofs.CallLaws.{take_short, took, take_refused, take_accepted}
 use Rattle.boundary_senders.proofs.take_in.Statement.{statement}
 use Rattle.boundary_senders.proofs.take_in.Tie as tie
 
@@ -35,7 +35,7 @@ returns-2 c =
     let k = c.before.before.before.before in
     let a = k.before.before.before.before.before.before.args in
     let is = took a.book.now a.message.now _ _ k.before.book-of.ensures k.take.ensures in
-    take-refused _ _ k.before.before.before.if1.false _ is _ c.before.said.given.1
+    take_refused _ _ k.before.before.before.if1.false _ is _ c.before.said.given.1
 
 same-length-2 : tie.Need-same-length-2
 same-length-2 c = search rules
@@ -45,7 +45,7 @@ returns-3 c =
     let k = c.before.before.before.before.before.before.before.before in
     let a = k.before.before.before.before.before.before.args in
     let is = took a.book.now a.message.now _ _ k.before.book-of.ensures k.take.ensures in
-    take-accepted _ _ k.before.before.before.if1.false _ is _ _ c.before.before.before.before.before.said2.given.1 c.before.before.put-book.ensures
+    take_accepted _ _ k.before.before.before.if1.false _ is _ _ c.before.before.before.before.before.said2.given.1 c.before.before.put-book.ensures
 
 pub take-in-spec : {M : Type 1} → statement M
 take-in-spec = tie.close (tie.spec refuse-requires returns book-of-requires take-requires enum-known-said enum-known-said-2 put-book-requires same_length returns-2 same-length-2 returns-3)

@@ -4,7 +4,7 @@ use borrow.Author.Rules.{rules}
 use mathlib.Core.Path.{refl, ◌∙◌}
 use Rattle.writing.specs.Writing.{encoded}
 use Rattle.boundary_giving.proofs.GivenLaws.{given_short, given_room, returned_short, answered_short, both_told}
-use Rattle.boundary_writer_exports.proofs.WriterLaws.{added-as, buffer-as}
+use Rattle.boundary_writer_exports.proofs.WriterLaws.{added_as, buffer_as}
 use Rattle.boundary_writer_exports.proofs.sim0mq_add.Statement.{statement}
 use Rattle.boundary_writer_exports.proofs.sim0mq_add.Tie as tie
 
@@ -31,8 +31,8 @@ returns-2 c =
     let w = c.before.before.before.before.before.before.before.before in
     let room = w.before.if1.false in
     let args = w.before.before.before.before.before.args in
-    let e = added-as _ _ w.Writer-of.ensures (encoded args.field.now) _ refl _ _ c.before.before.before.before.before.before.add.ensures.0 in
-    let out = buffer-as _ _ w.Writer-of.ensures (encoded args.field.now) _ refl args.out.now _ c.before.before.before.before.before.before.add.ensures.1 in
+    let e = added_as _ _ w.Writer-of.ensures (encoded args.field.now) _ refl _ _ c.before.before.before.before.before.before.add.ensures.0 in
+    let out = buffer_as _ _ w.Writer-of.ensures (encoded args.field.now) _ refl args.out.now _ c.before.before.before.before.before.before.add.ensures.1 in
     let told = both_told 7 _ _ _ _ _ e c.before.before.give-wrote.ensures in
     (told.0, (out ∙ given_room _ _ _ _ room, told.1))
 

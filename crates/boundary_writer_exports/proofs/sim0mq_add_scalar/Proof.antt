@@ -4,7 +4,7 @@ use borrow.Author.Rules.{rules}
 use mathlib.Core.Path.{ap, ◌∙◌}
 use Rattle.writing.specs.Writing.{scalar}
 use Rattle.boundary_giving.proofs.GivenLaws.{given_short, given_room, returned_short, answered_short, both_told}
-use Rattle.boundary_writer_exports.proofs.WriterLaws.{added-as, buffer-as}
+use Rattle.boundary_writer_exports.proofs.WriterLaws.{added_as, buffer_as}
 use Rattle.boundary_writer_exports.proofs.sim0mq_add_scalar.Statement.{statement}
 use Rattle.boundary_writer_exports.proofs.sim0mq_add_scalar.Tie as tie
 
@@ -35,8 +35,8 @@ returns-2 c =
     let room = v.before.if1.false in
     let is = c.before.before.before.before.before.before.before.before.Writer-of.ensures in
     let same = ap scalar v.scalar-from.ensures in
-    let e = added-as _ _ is _ _ same _ _ c.before.before.before.before.before.before.add-scalar.ensures.0 in
-    let out = buffer-as _ _ is _ _ same c.before.before.before.before.before.before.before.before.before.before.before.before.before.args.out.now _ c.before.before.before.before.before.before.add-scalar.ensures.1 in
+    let e = added_as _ _ is _ _ same _ _ c.before.before.before.before.before.before.add-scalar.ensures.0 in
+    let out = buffer_as _ _ is _ _ same c.before.before.before.before.before.before.before.before.before.before.before.before.before.args.out.now _ c.before.before.before.before.before.before.add-scalar.ensures.1 in
     let told = both_told 7 _ _ _ _ _ e c.before.before.give-wrote.ensures in
     (told.0, (out ∙ given_room _ _ _ _ room, told.1))
 

@@ -1,7 +1,7 @@
 -- The numbers are those of what `close` answers to the state that its numbers tell.
 use borrow.Author.Rules.{rules}
 use Rattle.boundary_giving.proofs.GivenLaws.{both_told}
-use Rattle.boundary_writer_exports.proofs.WriterLaws.{closed-as}
+use Rattle.boundary_writer_exports.proofs.WriterLaws.{closed_as}
 use Rattle.boundary_writer_exports.proofs.sim0mq_close.Statement.{statement}
 use Rattle.boundary_writer_exports.proofs.sim0mq_close.Tie as tie
 
@@ -21,7 +21,7 @@ returns : tie.Need-returns
 returns c =
     let g = c.before.before in
     let w = g.before.before in
-    both_told 7 _ _ _ _ _ (closed-as _ _ w.before.Writer-of.ensures _ w.close.ensures) g.give-wrote.ensures
+    both_told 7 _ _ _ _ _ (closed_as _ _ w.before.Writer-of.ensures _ w.close.ensures) g.give-wrote.ensures
 
 pub sim0mq-close-spec : {M : Type 1} → statement M
 sim0mq-close-spec =

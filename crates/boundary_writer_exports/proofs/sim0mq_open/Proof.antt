@@ -4,7 +4,7 @@ use mathlib.Core.Path.{◌∙◌}
 use mir.Syntax.{w64}
 use mir.ValLaws.{to_z-of_z}
 use Rattle.boundary_giving.proofs.GivenLaws.{given_short, given_room, returned_short, answered_short, both_told}
-use Rattle.boundary_writer_exports.proofs.WriterLaws.{opened_as, header-as}
+use Rattle.boundary_writer_exports.proofs.WriterLaws.{opened_as, header_as}
 use Rattle.boundary_writer_exports.proofs.sim0mq_open.Statement.{statement}
 use Rattle.boundary_writer_exports.proofs.sim0mq_open.Tie as tie
 
@@ -33,7 +33,7 @@ returns-2 c =
     let same = to_z-of_z w64 start.args.number start.ranges.number in
     let is = c.before.before.before.before.before.before.before.before.count-type.ensures in
     let e = opened_as _ _ _ _ _ _ _ same is _ _ c.before.before.before.before.before.before.open.ensures.0 in
-    let out = header-as _ _ _ _ _ _ _ same is start.args.out.now _ c.before.before.before.before.before.before.open.ensures.1 in
+    let out = header_as _ _ _ _ _ _ _ same is start.args.out.now _ c.before.before.before.before.before.before.open.ensures.1 in
     let told = both_told 7 _ _ _ _ _ e c.before.before.give-wrote.ensures in
     (told.0, (out ∙ given_room _ _ _ _ room, told.1))
 

@@ -3,7 +3,7 @@ use borrow.Author.Rules.{rules}
 use mathlib.Core.Path.{sym, ap, ◌∙◌}
 use Rattle.sim0mq.specs.Table.{row_size}
 use Rattle.commands.specs.Names.{command_as}
-use Rattle.commands.proofs.ReadLaws.{by-found, by-refused, by_all}
+use Rattle.commands.proofs.ReadLaws.{by_found, by_refused, by_all}
 use Rattle.commands.proofs.command.Statement.{statement}
 use Rattle.commands.proofs.command.Tie as tie
 
@@ -20,7 +20,7 @@ enum-known-r : tie.Need-enum-known-r
 enum-known-r c = search rules
 
 returns : tie.Need-returns
-returns c = by-refused _ _ _ _ (sym (ap command_as c.before.before.before.r.given.1) ∙ c.before.before.before.before.before.before.command-by.ensures) c.if1.true
+returns c = by_refused _ _ _ _ (sym (ap command_as c.before.before.before.r.given.1) ∙ c.before.before.before.before.before.before.command-by.ensures) c.if1.true
 
 slice-aggregate-command-by-2 : tie.Need-slice-aggregate-command-by-2
 slice-aggregate-command-by-2 c = search rules
@@ -29,7 +29,7 @@ command-by-requires-2 : tie.Need-command-by-requires-2
 command-by-requires-2 c κs = search rules
 
 returns-2 : tie.Need-returns-2
-returns-2 c = by-found _ _ _ (sym (ap command_as c.before.name.given.1) ∙ c.before.before.before.before.command-by.ensures)
+returns-2 c = by_found _ _ _ (sym (ap command_as c.before.name.given.1) ∙ c.before.before.before.before.command-by.ensures)
 
 returns-3 : tie.Need-returns-3
 unfolding row_size

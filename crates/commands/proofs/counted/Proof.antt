@@ -1,7 +1,7 @@
 -- A number that is fixed; or, in FM.2, one that the sixth field tells.
 use borrow.Author.Rules.{rules}
 use mathlib.Core.Path.{◌∙◌}
-use Rattle.commands.proofs.NumberLaws.{fixed-other, fixed-fine, turns-few, turns-code, turns-sign, turns-many, turns-fine}
+use Rattle.commands.proofs.NumberLaws.{fixed_other, fixed_fine, turns_few, turns-code, turns-sign, turns-many, turns-fine}
 use Rattle.sim0mq.specs.Table.{row_size}
 use Rattle.commands.proofs.counted.Statement.{statement}
 use Rattle.commands.proofs.counted.Tie as tie
@@ -13,16 +13,16 @@ refuse-requires : tie.Need-refuse-requires
 refuse-requires c κs = search rules
 
 returns : tie.Need-returns
-returns c = λ fs h. c.refuse.ensures ∙ fixed-other _ _ _ _ _ _ c.before.before.before.before.before.before.requires.0 c.before.before.before.if1.true c.before.before.count.ensures.0 fs h c.before.if2.true
+returns c = λ fs h. c.refuse.ensures ∙ fixed_other _ _ _ _ _ _ c.before.before.before.before.before.before.requires.0 c.before.before.before.if1.true c.before.before.count.ensures.0 fs h c.before.if2.true
 
 returns-2 : tie.Need-returns-2
-returns-2 c = λ fs h. fixed-fine _ _ _ _ _ _ c.before.before.before.before.before.requires.0 c.before.before.if1.true c.before.count.ensures.0 fs h c.if2.false
+returns-2 c = λ fs h. fixed_fine _ _ _ _ _ _ c.before.before.before.before.before.requires.0 c.before.before.if1.true c.before.count.ensures.0 fs h c.if2.false
 
 refuse-requires-2 : tie.Need-refuse-requires-2
 refuse-requires-2 c κs = search rules
 
 returns-3 : tie.Need-returns-3
-returns-3 c = λ fs h. c.refuse2.ensures ∙ turns-few _ _ _ _ _ c.before.before.if1.false fs h c.before.if3.true
+returns-3 c = λ fs h. c.refuse2.ensures ∙ turns_few _ _ _ _ _ c.before.before.if1.false fs h c.before.if3.true
 
 mul-sixth : tie.Need-overflow-mul-sixth
 mul-sixth c = search rules

@@ -10,7 +10,7 @@ use Rattle.sim0mq.specs.Field.{Field}
 use Rattle.commands_page.specs.Page.{row_at}
 use Rattle.commands_page.specs.Judging.{each}
 use Rattle.commands.specs.Tables.{Held}
-use Rattle.commands.proofs.EachLaws.{each-refuses, each_goes, each-ends}
+use Rattle.commands.proofs.EachLaws.{each_refuses, each_goes, each_ends}
 use Rattle.sim0mq.specs.Table.{row_size}
 use Rattle.commands.proofs.each.Statement.{statement}
 use Rattle.commands.proofs.each.Tie as tie
@@ -51,7 +51,7 @@ returns : tie.Need-returns invariant-loop decreases-loop
 unfolding row_size
 returns c =
     let l = c.before.before.before.before.before.loop-test.true in
-    λ fs h. c.refuse.ensures ∙ each-refuses _ _ _ _ _ _ fs h (c.before.before.before.before.before.before.loop.invariant.1 fs h) _ l c.before.wide32.ensures.0 (sym (c.before.before.before.before.right.ensures _ (h.cells _ l)) ∙ not-true _ c.before.before.before.if1.true)
+    λ fs h. c.refuse.ensures ∙ each_refuses _ _ _ _ _ _ fs h (c.before.before.before.before.before.before.loop.invariant.1 fs h) _ l c.before.wide32.ensures.0 (sym (c.before.before.before.before.right.ensures _ (h.cells _ l)) ∙ not-true _ c.before.before.before.if1.true)
 
 add-i : tie.Need-overflow-add-i invariant-loop decreases-loop
 add-i c = search rules
@@ -65,7 +65,7 @@ loop-again c =
     (omega arith, λ fs h. each_goes _ _ _ _ _ _ fs h (c.before.before.before.loop.invariant.1 fs h) l (sym (c.before.right.ensures _ (h.cells _ l)) ∙ not-false _ c.if1.false))
 
 returns-2 : tie.Need-returns-2 invariant-loop decreases-loop
-returns-2 c = λ fs h. each-ends _ _ _ _ _ _ fs h (c.before.loop.invariant.1 fs h) (omega arith)
+returns-2 c = λ fs h. each_ends _ _ _ _ _ _ fs h (c.before.loop.invariant.1 fs h) (omega arith)
 
 pub each_spec : {M : Type 1} → statement M
 each_spec =

@@ -2,7 +2,7 @@
 use borrow.Author.Rules.{rules}
 use mathlib.Core.Path.{sym, ◌∙◌}
 use Rattle.commands_page.specs.Judging.{text_taken}
-use Rattle.commands.proofs.CommandLaws.{words-here, words-later, words_last}
+use Rattle.commands.proofs.CommandLaws.{words_here, words_later, words_last}
 use Rattle.commands.proofs.fault.Statement.{statement}
 use Rattle.commands.proofs.fault.Tie as tie
 
@@ -14,7 +14,7 @@ word-requires c κs = search rules
 
 returns : tie.Need-returns
 unfolding text_taken
-returns c = words-here _ _ _ _ _ (sym c.before.word.ensures ∙ c.if1.true)
+returns c = words_here _ _ _ _ _ (sym c.before.word.ensures ∙ c.if1.true)
 
 slice-aggregate-word-2 : tie.Need-slice-aggregate-word-2
 slice-aggregate-word-2 c = search rules
@@ -24,7 +24,7 @@ word-requires-2 c κs = search rules
 
 returns-2 : tie.Need-returns-2
 unfolding text_taken
-returns-2 c = c.word2.ensures ∙ words_last _ _ _ _ ∙ words-later _ _ _ _ _ (sym c.before.before.before.word.ensures ∙ c.before.before.if1.false)
+returns-2 c = c.word2.ensures ∙ words_last _ _ _ _ ∙ words_later _ _ _ _ _ (sym c.before.before.before.word.ensures ∙ c.before.before.if1.false)
 
 pub fault-spec : {M : Type 1} → statement M
 fault-spec =

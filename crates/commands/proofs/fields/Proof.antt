@@ -2,7 +2,7 @@
 use borrow.Author.Rules.{rules}
 use mathlib.Core.Path.{sym, ap, ◌∙◌}
 use Rattle.sim0mq.specs.Views.{judged}
-use Rattle.commands.proofs.NumberLaws.{fields-number, fields-codes, fields-strings, fields-fine}
+use Rattle.commands.proofs.NumberLaws.{fields_number, fields-codes, fields-strings, fields-fine}
 use Rattle.commands.proofs.fields.Statement.{statement}
 use Rattle.commands.proofs.fields.Tie as tie
 
@@ -34,7 +34,7 @@ enum-known-d : tie.Need-enum-known-d
 enum-known-d c = search rules
 
 returns : tie.Need-returns
-returns c = λ fs h. fields-number _ _ _ _ _ _ (sym (ap judged c.before.r.given.1) ∙ c.before.before.before.counted.ensures fs h)
+returns c = λ fs h. fields_number _ _ _ _ _ _ (sym (ap judged c.before.r.given.1) ∙ c.before.before.before.counted.ensures fs h)
 
 returns-2 : tie.Need-returns-2
 returns-2 c = λ fs h. fields-codes _ _ _ _ _ (sym (ap judged c.before.before.before.before.before.a.given.1) ∙ c.before.before.before.before.before.before.before.counted.ensures fs h) _ _ (sym (ap judged c.before.r2.given.1) ∙ c.before.before.before.each.ensures fs h)

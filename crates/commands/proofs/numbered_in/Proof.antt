@@ -6,7 +6,7 @@ use mathlib.Core.Path.{◌≡◌, refl, sym, ◌∙◌}
 use lib.ListN.{drop}
 use Rattle.commands_page.specs.Page.{page}
 use Rattle.commands_page.specs.Judging.{number_from}
-use Rattle.commands.proofs.TableLaws.{part_id, number-here, number-later, number-none}
+use Rattle.commands.proofs.TableLaws.{part_id, number_here, number_later, number_none}
 use Rattle.commands.proofs.numbered_in.Statement.{statement}
 use Rattle.commands.proofs.numbered_in.Tie as tie
 
@@ -38,7 +38,7 @@ word-requires : tie.Need-word-requires invariant-loop decreases-loop
 word-requires c κs = search rules
 
 returns : tie.Need-returns invariant-loop decreases-loop
-returns c = (sym (c.before.before.before.before.loop.invariant.0 ∙ number-here _ _ _ _ _ c.before.before.before.loop-test.true (part_id _ _ c.before.before.before.before.before.before.before.requires.1 c.before.before.before.loop-test.true ∙ refl) (sym c.before.word.ensures ∙ c.if1.true)), omega arith)
+returns c = (sym (c.before.before.before.before.loop.invariant.0 ∙ number_here _ _ _ _ _ c.before.before.before.loop-test.true (part_id _ _ c.before.before.before.before.before.before.before.requires.1 c.before.before.before.loop-test.true ∙ refl) (sym c.before.word.ensures ∙ c.if1.true)), omega arith)
 
 add-k : tie.Need-overflow-add-k invariant-loop decreases-loop
 add-k c = search rules
@@ -47,10 +47,10 @@ loop-less : tie.Need-loop-smaller invariant-loop decreases-loop
 loop-less c = search rules
 
 loop-again : tie.Need-loop-preserved invariant-loop decreases-loop
-loop-again c = (c.before.before.before.before.loop.invariant.0 ∙ number-later _ _ _ _ _ c.before.before.before.loop-test.true (part_id _ _ c.before.before.before.before.before.before.before.requires.1 c.before.before.before.loop-test.true) (sym c.before.word.ensures ∙ c.if1.false), omega arith)
+loop-again c = (c.before.before.before.before.loop.invariant.0 ∙ number_later _ _ _ _ _ c.before.before.before.loop-test.true (part_id _ _ c.before.before.before.before.before.before.before.requires.1 c.before.before.before.loop-test.true) (sym c.before.word.ensures ∙ c.if1.false), omega arith)
 
 returns-2 : tie.Need-returns-2 invariant-loop decreases-loop
-returns-2 c = (sym (c.before.loop.invariant.0 ∙ number-none _ _ _ _ (omega arith)), omega arith)
+returns-2 c = (sym (c.before.loop.invariant.0 ∙ number_none _ _ _ _ (omega arith)), omega arith)
 
 pub numbered-in-spec : {M : Type 1} → statement M
 numbered-in-spec =

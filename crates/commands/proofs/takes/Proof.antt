@@ -4,7 +4,7 @@ use mathlib.Core.Path.{refl}
 use Rattle.sim0mq_tables.proofs.TableCases.{none_below}
 use Rattle.commands_page.specs.Page.{any, filled, state_string, fault_string, duration, time, basic}
 use Rattle.commands_page.specs.Judging.{code_taken}
-use Rattle.commands.proofs.CommandLaws.{one_taken, any-taken, same_taken, want_past, want_at}
+use Rattle.commands.proofs.CommandLaws.{one_taken, any_taken, same_taken, want_past, want_at}
 use Rattle.commands.proofs.takes.Statement.{statement}
 use Rattle.commands.proofs.takes.Tie as tie
 
@@ -45,7 +45,7 @@ returns-9 : tie.Need-returns-9
 returns-9 c = one_taken _ _ _ 5 any (want_at _ 8 _ c.match.keys9 refl)
 
 returns-10 : tie.Need-returns-10
-returns-10 c = any-taken _ _ _ (want_at _ 9 _ c.match.keys10 refl)
+returns-10 c = any_taken _ _ _ (want_at _ 9 _ c.match.keys10 refl)
 
 returns-11 : tie.Need-returns-11
 returns-11 c = same_taken _ _ _ duration _ (want_at _ 10 _ c.before.match.keys11 refl) c.timed.ensures

@@ -5,7 +5,7 @@ use Prim.Native.Nat.{◌+◌, ◌-◌, ◌≤◌}
 use mathlib.Core.Path.{◌≡◌, sym, ◌∙◌}
 use lib.ListN.{length, drop}
 use Rattle.commands_page.specs.Judging.{is_word, stands_at}
-use Rattle.commands.proofs.CommandLaws.{word-long, word-as, stands-start, stands-turn, stands-stop, stands-end}
+use Rattle.commands.proofs.CommandLaws.{word_long, word_as, stands_start, stands_turn, stands_stop, stands_end}
 use Rattle.commands.proofs.word.Statement.{statement}
 use Rattle.commands.proofs.word.Tie as tie
 
@@ -16,10 +16,10 @@ abbrev decreases-loop : tie.decreases-loop
 decreases-loop s at size w i₀ i = length w - i
 
 returns : tie.Need-returns invariant-loop decreases-loop
-returns c = word-long _ _ _ _ c.if1.true
+returns c = word_long _ _ _ _ c.if1.true
 
 loop-holds : tie.Need-loop-init invariant-loop decreases-loop
-loop-holds c = (word-as _ _ _ _ c.if1.false ∙ stands-start _ _ _, omega arith)
+loop-holds c = (word_as _ _ _ _ c.if1.false ∙ stands_start _ _ _, omega arith)
 
 add-byte-at : tie.Need-overflow-add-byte-at invariant-loop decreases-loop
 add-byte-at c = search rules
@@ -31,7 +31,7 @@ shared-slice-read-if2 : tie.Need-shared-slice-read-if2 invariant-loop decreases-
 shared-slice-read-if2 c = search rules
 
 returns-2 : tie.Need-returns-2 invariant-loop decreases-loop
-returns-2 c = sym (c.before.before.before.before.loop.invariant.0 ∙ stands-stop _ _ _ _ (omega arith) (λ e. c.if2.true (c.before.before.byte_at.ensures ∙ e)))
+returns-2 c = sym (c.before.before.before.before.loop.invariant.0 ∙ stands_stop _ _ _ _ (omega arith) (λ e. c.if2.true (c.before.before.byte_at.ensures ∙ e)))
 
 add-i : tie.Need-overflow-add-i invariant-loop decreases-loop
 add-i c = search rules
@@ -40,10 +40,10 @@ loop-less : tie.Need-loop-smaller invariant-loop decreases-loop
 loop-less c = search rules
 
 loop-again : tie.Need-loop-preserved invariant-loop decreases-loop
-loop-again c = (c.before.before.before.before.loop.invariant.0 ∙ stands-turn _ _ _ _ (omega arith) (sym c.before.before.byte_at.ensures ∙ c.if2.false), omega arith)
+loop-again c = (c.before.before.before.before.loop.invariant.0 ∙ stands_turn _ _ _ _ (omega arith) (sym c.before.before.byte_at.ensures ∙ c.if2.false), omega arith)
 
 returns-3 : tie.Need-returns-3 invariant-loop decreases-loop
-returns-3 c = sym (c.before.loop.invariant.0 ∙ stands-end _ _ _ _ (omega arith))
+returns-3 c = sym (c.before.loop.invariant.0 ∙ stands_end _ _ _ _ (omega arith))
 
 pub word-spec : {M : Type 1} → statement M
 word-spec =

@@ -5,7 +5,7 @@ use mathlib.Core.Path.{sym, ap, ◌∙◌, subst}
 use mathlib.Core.List.{List}
 use Rattle.ledger_decks.specs.Decks.{one_more, decks_after}
 use Rattle.ledger_decks.specs.Promises.{CanBeDone}
-use Rattle.ledger_decks.proofs.OrderCases.{joins-by, leaves_by, stays, moves-by, room-still}
+use Rattle.ledger_decks.proofs.OrderCases.{joins_by, leaves_by, stays, moves-by, room-still}
 use borrow.Author.Rules.{rules}
 use Rattle.ledger.proofs.apply.Statement.{statement}
 use Rattle.ledger.proofs.apply.Tie as tie
@@ -49,7 +49,7 @@ one-less-requires-2 c κs =
 returns-2 : tie.Need-returns-2
 returns-2 c =
     c.one_more.ensures
-    ∙ (joins-by _ _
+    ∙ (joins_by _ _
     ∙ ap (decks_after c.before.before.before.before.args.heads) (sym c.before.before.deed.given.1))
 
 returns-3 : tie.Need-returns-3

@@ -1,7 +1,7 @@
 -- ledger::enter: what the book answers is what mustering answers, and the deed is done where the message is taken.
 use mathlib.Core.Path.{ap, ◌∙◌}
 use Rattle.ledger.specs.Ledger.{after_mustering}
-use Rattle.ledger.proofs.CallCases.{book-stops, book-goes}
+use Rattle.ledger.proofs.CallCases.{book_stops, book_goes}
 use borrow.Author.Rules.{rules}
 use Rattle.ledger.proofs.enter.Statement.{statement}
 use Rattle.ledger.proofs.enter.Tie as tie
@@ -27,14 +27,14 @@ returns c =
     let a = took.before.before.args in
     c.refused.ensures
     ∙ ap (after_mustering a.ledger a.book)
-    (book-stops a.ledger a.book _ _ a.deed _ took.take-framed.ensures _
+    (book_stops a.ledger a.book _ _ a.deed _ took.take-framed.ensures _
     c.before.before.said.given.1)
 
 returns-2 : tie.Need-returns-2
 returns-2 c =
     let took = c.before.before.before.before.before.before in
     let a = took.before.before.args in
-    book-goes a.ledger a.book _ _ a.deed _ took.take-framed.ensures _ _
+    book_goes a.ledger a.book _ _ a.deed _ took.take-framed.ensures _ _
     c.before.before.said2.given.1 c.apply.ensures
 
 pub enter_spec : {M : Type 1} → statement M

@@ -1,7 +1,7 @@
 -- ledger::muster: the message is read once, and mustered by the frames and the number of fields that reading found.
 use mathlib.Core.Path.{ap, ◌∙◌}
 use Rattle.ledger.specs.Ledger.{after_mustering}
-use Rattle.ledger.proofs.CallCases.{muster-stops, muster-goes}
+use Rattle.ledger.proofs.CallCases.{muster_stops, muster_goes}
 use borrow.Author.Rules.{rules}
 use Rattle.ledger.proofs.muster.Statement.{statement}
 use Rattle.ledger.proofs.muster.Tie as tie
@@ -27,7 +27,7 @@ returns c =
     let a = judge.before.before.args in
     c.refused.ensures
     ∙ ap (after_mustering a.ledger a.book)
-    (muster-stops _ _ _ _ judge.judge.ensures _ c.before.before.said.given.1)
+    (muster_stops _ _ _ _ judge.judge.ensures _ c.before.before.said.given.1)
 
 returns-2 : tie.Need-returns-2
 returns-2 c =
@@ -35,7 +35,7 @@ returns-2 c =
     let a = judge.before.before.args in
     c.muster-framed.ensures
     ∙ ap (after_mustering a.ledger a.book)
-    (muster-goes _ _ _ _ judge.judge.ensures _ c.before.before.said2.given.1)
+    (muster_goes _ _ _ _ judge.judge.ensures _ c.before.before.said2.given.1)
 
 pub muster-spec : {M : Type 1} → statement M
 muster-spec =

@@ -1,10 +1,10 @@
 -- ledger::muster_framed: what the ledger grants can be done, so the book is asked and the deed done after it.
 use mathlib.Core.Path.{sym, ap, ◌∙◌}
-use Rattle.ledger_decks.proofs.Promises.{ordering-can}
+use Rattle.ledger_decks.proofs.Promises.{ordering_can}
 use Rattle.senders.proofs.CallCases.{place_shown}
 use Rattle.ledger_judging.specs.Judging.{ordered}
 use Rattle.ledger.specs.Ledger.{after_mustering}
-use Rattle.ledger.proofs.CallCases.{framed-stops, framed-goes}
+use Rattle.ledger.proofs.CallCases.{framed_stops, framed_goes}
 use borrow.Author.Rules.{rules}
 use Rattle.ledger.proofs.muster_framed.Statement.{statement}
 use Rattle.ledger.proofs.muster_framed.Tie as tie
@@ -32,7 +32,7 @@ enum-known-deed c = search rules
 
 enter-requires : tie.Need-enter-requires
 enter-requires c κs =
-    ordering-can _ _ _ _ _ _ _ _
+    ordering_can _ _ _ _ _ _ _ _
     (sym c.before.before.before.order.ensures ∙ ap ordered c.before.deed.given.1)
 
 returns : tie.Need-returns
@@ -41,7 +41,7 @@ returns c =
     let a = order.before.before.before.before.before.before.args in
     c.refused.ensures
     ∙ ap (after_mustering a.ledger a.book)
-    (framed-stops _ _ _ _ _ _ _ _ (place_shown a.t4 4) (place_shown a.t4 6) (place_shown a.t4 7) _ _
+    (framed_stops _ _ _ _ _ _ _ _ (place_shown a.t4 4) (place_shown a.t4 6) (place_shown a.t4 7) _ _
     (sym order.order.ensures ∙ ap ordered c.before.before.r.given.1))
 
 returns-2 : tie.Need-returns-2
@@ -50,7 +50,7 @@ returns-2 c =
     let a = order.before.before.before.before.before.before.args in
     c.enter.ensures
     ∙ ap (after_mustering a.ledger a.book)
-    (framed-goes _ _ _ _ _ _ _ _ (place_shown a.t4 4) (place_shown a.t4 6) (place_shown a.t4 7) _
+    (framed_goes _ _ _ _ _ _ _ _ (place_shown a.t4 4) (place_shown a.t4 6) (place_shown a.t4 7) _
     (sym order.order.ensures ∙ ap ordered c.before.before.deed.given.1))
 
 pub muster-framed-spec : {M : Type 1} → statement M

@@ -1,7 +1,7 @@
 -- ledger_judging::deed_for: the first field stands after frame 7, and lies in the message.
 use mathlib.Core.Path.{ap, sym, ◌∙◌}
 use Rattle.reading_fields.specs.Items.{fielded}
-use Rattle.ledger_decks.proofs.OrderCases.{first_stops, first_goes, follows-within}
+use Rattle.ledger_decks.proofs.OrderCases.{first_stops, first_goes, follows_within}
 use borrow.Author.Rules.{rules}
 use Rattle.ledger_judging.proofs.deed_for.Statement.{statement}
 use Rattle.ledger_judging.proofs.deed_for.Tie as tie
@@ -20,7 +20,7 @@ enum-known-f c = search rules
 
 deed-of-requires : tie.Need-deed-of-requires
 deed-of-requires c κs =
-    follows-within _ _ _ (sym c.before.before.before.first_field.ensures ∙ ap fielded c.before.f.given.1)
+    follows_within _ _ _ (sym c.before.before.before.first_field.ensures ∙ ap fielded c.before.f.given.1)
 
 returns : tie.Need-returns
 returns c =

@@ -2,7 +2,7 @@
 -- field.
 use mathlib.Core.Path.{ap, sym, ◌∙◌}
 use Rattle.reading_fields.specs.Items.{fielded}
-use Rattle.ledger_decks.proofs.OrderCases.{deed-new, deed-change, deed-stops, deed-delete}
+use Rattle.ledger_decks.proofs.OrderCases.{deed_new, deed-change, deed-stops, deed-delete}
 use borrow.Author.Rules.{rules}
 use Rattle.ledger_judging.proofs.deed_of.Statement.{statement}
 use Rattle.ledger_judging.proofs.deed_of.Tie as tie
@@ -14,7 +14,7 @@ join-requires : tie.Need-join-requires
 join-requires c κs = search rules
 
 returns : tie.Need-returns
-returns c = c.join.ensures ∙ deed-new _ _ _ _ _ c.before.if1.true
+returns c = c.join.ensures ∙ deed_new _ _ _ _ _ c.before.if1.true
 
 cast-if2 : tie.Need-overflow-cast-if2
 cast-if2 c = search rules

@@ -2,8 +2,8 @@
 -- field after it can be outlined too.
 use mathlib.Core.Path.{ap, sym, ◌∙◌}
 use Rattle.reading_fields.specs.Items.{fielded}
-use Rattle.senders_book.proofs.StampLaws.{outline-within}
-use Rattle.ledger_decks.proofs.OrderCases.{follows-goes, follows-stops}
+use Rattle.senders_book.proofs.StampLaws.{outline_within}
+use Rattle.ledger_decks.proofs.OrderCases.{follows_goes, follows_stops}
 use borrow.Author.Rules.{rules}
 use Rattle.ledger_judging.proofs.first_field.Statement.{statement}
 use Rattle.ledger_judging.proofs.first_field.Tie as tie
@@ -19,16 +19,16 @@ enum-known-c c = search rules
 
 field-after-requires : tie.Need-field-after-requires
 field-after-requires c κs =
-    outline-within _ _ _ (sym c.before.before.before.outline.ensures ∙ ap fielded c.before.c.given.1)
+    outline_within _ _ _ (sym c.before.before.before.outline.ensures ∙ ap fielded c.before.c.given.1)
 
 returns : tie.Need-returns
 returns c =
-    follows-stops _ _ _ _ (sym c.before.before.before.outline.ensures ∙ ap fielded c.before.r.given.1)
+    follows_stops _ _ _ _ (sym c.before.before.before.outline.ensures ∙ ap fielded c.before.r.given.1)
 
 returns-2 : tie.Need-returns-2
 returns-2 c =
     c.field-after.ensures
-    ∙ follows-goes _ _ _
+    ∙ follows_goes _ _ _
     (sym c.before.before.before.before.outline.ensures ∙ ap fielded c.before.before.c.given.1)
 
 pub first-field-spec : {M : Type 1} → statement M

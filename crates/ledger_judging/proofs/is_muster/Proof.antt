@@ -6,9 +6,9 @@ use native.Mathlib.Omega.{arith}
 use lib.ListN.{drop}
 use lib.Seq.{get_or-drop}
 use Rattle.senders_book.specs.Book.{alike}
-use Rattle.senders_book.proofs.IdLaws.{alike-start, alike-more, alike-stops}
+use Rattle.senders_book.proofs.IdLaws.{alike_start, alike_more, alike_stops}
 use Rattle.ledger_decks.specs.Mustering.{muster_type}
-use Rattle.ledger_decks.proofs.OrderCases.{other-code, other-size, by_bytes}
+use Rattle.ledger_decks.proofs.OrderCases.{other_code, other-size, by_bytes}
 use borrow.Author.Rules.{rules}
 use Rattle.ledger_judging.proofs.is_muster.Statement.{statement}
 use Rattle.ledger_judging.proofs.is_muster.Tie as tie
@@ -20,13 +20,13 @@ abbrev decreases-loop : tie.decreases-loop
 decreases-loop s f k₀ k = 5 - k
 
 returns : tie.Need-returns invariant-loop decreases-loop
-returns c = other-code _ _ c.if1.true
+returns c = other_code _ _ c.if1.true
 
 returns-2 : tie.Need-returns-2 invariant-loop decreases-loop
 returns-2 c = other-size _ _ c.before.before.if1.false c.if2.true
 
 loop-holds : tie.Need-loop-init invariant-loop decreases-loop
-loop-holds c = (alike-start _ _, omega arith)
+loop-holds c = (alike_start _ _, omega arith)
 
 add-if3 : tie.Need-overflow-add-if3 invariant-loop decreases-loop
 add-if3 c = search rules
@@ -43,7 +43,7 @@ returns-3 c =
     let size = test.before.before in
     let a = size.before.before.before.before.args in
     let there = get_or-drop a.f.first a.s.now test.before.loop.k 0 in
-    sym (alike-stops _ _ 5 test.before.loop.k (omega arith) (λ q. c.if3.true (sym there ∙ q)))
+    sym (alike_stops _ _ 5 test.before.loop.k (omega arith) (λ q. c.if3.true (sym there ∙ q)))
     ∙ by_bytes _ _ size.before.before.if1.false size.if2.false
 
 add-k : tie.Need-overflow-add-k invariant-loop decreases-loop
@@ -57,7 +57,7 @@ loop-again c =
     let loop = c.before.before.before.before in
     let a = loop.before.before.before.before.before.args in
     let there = get_or-drop a.f.first a.s.now loop.loop.k 0 in
-    (alike-more _ _ _ loop.loop.invariant.0 (there ∙ c.if3.false), omega arith)
+    (alike_more _ _ _ loop.loop.invariant.0 (there ∙ c.if3.false), omega arith)
 
 returns-4 : tie.Need-returns-4 invariant-loop decreases-loop
 returns-4 c =

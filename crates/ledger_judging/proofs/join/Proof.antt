@@ -1,6 +1,6 @@
 -- ledger_judging::join: each test is one of the definition, in its order: a byte, a deck, and room on it.
 use mathlib.Core.Path.{◌∙◌}
-use Rattle.ledger_decks.proofs.OrderCases.{join-code, join-deck, join-full, join_goes}
+use Rattle.ledger_decks.proofs.OrderCases.{join_code, join-deck, join-full, join_goes}
 use borrow.Author.Rules.{rules}
 use Rattle.ledger_judging.proofs.join.Statement.{statement}
 use Rattle.ledger_judging.proofs.join.Tie as tie
@@ -9,7 +9,7 @@ refuse-requires : tie.Need-refuse-requires
 refuse-requires c κs = search rules
 
 returns : tie.Need-returns
-returns c = c.refuse.ensures ∙ join-code _ _ _ c.before.if1.true
+returns c = c.refuse.ensures ∙ join_code _ _ _ c.before.if1.true
 
 number-requires : tie.Need-number-requires
 number-requires c κs = search rules

@@ -1,6 +1,6 @@
 -- ledger_judging::leave: each test is one of the definition, in its order: a byte, a deck, and a head on it.
 use mathlib.Core.Path.{◌∙◌}
-use Rattle.ledger_decks.proofs.OrderCases.{leave-code, leave-deck, leave_none, leave-goes}
+use Rattle.ledger_decks.proofs.OrderCases.{leave_code, leave-deck, leave_none, leave-goes}
 use borrow.Author.Rules.{rules}
 use Rattle.ledger_judging.proofs.leave.Statement.{statement}
 use Rattle.ledger_judging.proofs.leave.Tie as tie
@@ -9,7 +9,7 @@ refuse-requires : tie.Need-refuse-requires
 refuse-requires c κs = search rules
 
 returns : tie.Need-returns
-returns c = c.refuse.ensures ∙ leave-code _ _ _ c.before.if1.true
+returns c = c.refuse.ensures ∙ leave_code _ _ _ c.before.if1.true
 
 number-requires : tie.Need-number-requires
 number-requires c κs = search rules

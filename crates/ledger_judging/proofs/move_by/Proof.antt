@@ -2,7 +2,7 @@
 -- left, and room on the deck joined unless it is the deck left.
 use mathlib.Core.Path.{◌∙◌}
 use Rattle.ledger_decks.proofs.OrderCases.{
-  move-code,
+  move_code,
   move-code-2,
   move-deck,
   move-deck-2,
@@ -19,7 +19,7 @@ refuse-requires : tie.Need-refuse-requires
 refuse-requires c κs = search rules
 
 returns : tie.Need-returns
-returns c = c.refuse.ensures ∙ move-code _ _ _ _ c.before.if1.true
+returns c = c.refuse.ensures ∙ move_code _ _ _ _ c.before.if1.true
 
 refuse-requires-2 : tie.Need-refuse-requires-2
 refuse-requires-2 c κs = search rules

@@ -3,8 +3,8 @@
 use mathlib.Core.Path.{ap, sym, ◌∙◌}
 use borrow.Author.Tests.{not-true, not-false}
 use Rattle.reading_fields.specs.Items.{fielded}
-use Rattle.senders_book.proofs.StampLaws.{outline-within}
-use Rattle.ledger_decks.proofs.OrderCases.{order-kind, order_other, order-status, order-many, order-goes}
+use Rattle.senders_book.proofs.StampLaws.{outline_within}
+use Rattle.ledger_decks.proofs.OrderCases.{order_kind, order_other, order-status, order-many, order-goes}
 use borrow.Author.Rules.{rules}
 use Rattle.ledger_judging.proofs.order.Statement.{statement}
 use Rattle.ledger_judging.proofs.order.Tie as tie
@@ -23,7 +23,7 @@ enum-known-f c = search rules
 
 is-muster-requires : tie.Need-is-muster-requires
 is-muster-requires c κs =
-    outline-within _ _ _ (sym c.before.before.before.outline.ensures ∙ ap fielded c.before.f.given.1)
+    outline_within _ _ _ (sym c.before.before.before.outline.ensures ∙ ap fielded c.before.f.given.1)
 
 refuse-requires-2 : tie.Need-refuse-requires-2
 refuse-requires-2 c κs = search rules
@@ -74,7 +74,7 @@ deed-for-requires c κs = search rules
 returns-3 : tie.Need-returns-3
 returns-3 c =
     c.refuse.ensures
-    ∙ order-kind _ _ _ _ _ _ _ _ _
+    ∙ order_kind _ _ _ _ _ _ _ _ _
     (sym c.before.before.before.before.outline.ensures ∙ ap fielded c.before.before.r.given.1)
 
 returns-4 : tie.Need-returns-4

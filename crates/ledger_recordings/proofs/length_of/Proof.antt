@@ -2,13 +2,13 @@
 use native.Mathlib.Omega.{arith}
 use mathlib.Core.Path.{refl, ap}
 use Rattle.recordings.specs.declared.Placed.{Placed}
-use Rattle.recordings.proofs.StatedLaws.{stated-narrow, entry-room, entry-is}
+use Rattle.recordings.proofs.StatedLaws.{stated_narrow, entry-room, entry-is}
 use borrow.Author.Rules.{rules}
 use Rattle.ledger_recordings.proofs.length_of.Statement.{statement}
 use Rattle.ledger_recordings.proofs.length_of.Tie as tie
 
 add-number : tie.Need-overflow-add-number
-add-number c = let narrow = stated-narrow c.before.before.requires.0 in omega arith
+add-number c = let narrow = stated_narrow c.before.before.requires.0 in omega arith
 
 mul-number : tie.Need-overflow-mul-number
 mul-number c =

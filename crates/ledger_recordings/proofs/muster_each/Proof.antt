@@ -3,7 +3,7 @@ use Prim.Native.Nat.{◌-◌}
 use mathlib.Core.Path.{ap, ◌∙◌}
 use native.Mathlib.Omega.{arith}
 use Rattle.recordings.proofs.StatedLaws.{entry-lies}
-use Rattle.ledger_recordings.proofs.ReckonLaws.{Reckons, reckons-start, reckons-is, reckons-stop, reckons-one, reckons-turn, reckons-end}
+use Rattle.ledger_recordings.proofs.ReckonLaws.{Reckons, reckons_start, reckons-is, reckons-stop, reckons-one, reckons-turn, reckons-end}
 use borrow.Author.Rules.{rules}
 use Rattle.ledger_recordings.proofs.muster_each.Statement.{statement}
 use Rattle.ledger_recordings.proofs.muster_each.Tie as tie
@@ -22,7 +22,7 @@ empty-requires-2 c κs = search rules
 
 loop-holds : tie.Need-loop-init invariant-loop decreases-loop
 loop-holds c =
-    reckons-start c.before.before.before.before.requires _ _ (ap (λ x. x.heads) c.before.empty.ensures) (ap (λ x. x.senders) c.empty2.ensures)
+    reckons_start c.before.before.before.before.requires _ _ (ap (λ x. x.heads) c.before.empty.ensures) (ap (λ x. x.senders) c.empty2.ensures)
 
 length-of-requires : tie.Need-length-of-requires invariant-loop decreases-loop
 length-of-requires c κs = (c.before.before.before.before.before.before.before.requires, c.if1.true)

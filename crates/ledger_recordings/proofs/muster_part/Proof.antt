@@ -4,7 +4,7 @@ use native.Mathlib.Omega.{arith}
 use Rattle.reading.specs.declared.Answer.{Answer}
 use Rattle.recordings.proofs.StretchCases.{stretch-place}
 use Rattle.ledger_recordings.specs.Reckoning.{turn_of}
-use Rattle.ledger_recordings.proofs.TurnLaws.{part-over, part-refused, part-accepted}
+use Rattle.ledger_recordings.proofs.TurnLaws.{part_over, part-refused, part-accepted}
 use borrow.Author.Rules.{rules}
 use Rattle.ledger_recordings.proofs.muster_part.Statement.{statement}
 use Rattle.ledger_recordings.proofs.muster_part.Tie as tie
@@ -13,7 +13,7 @@ stopped-requires : tie.Need-stopped-requires
 stopped-requires c κs = search rules
 
 returns : tie.Need-returns
-returns c = c.stopped.ensures ∙ part-over _ _ _ _ _ _ c.before.before.before.requires c.before.if1.true
+returns c = c.stopped.ensures ∙ part_over _ _ _ _ _ _ c.before.before.before.requires c.before.if1.true
 
 add-end : tie.Need-overflow-add-end
 add-end c = search rules

@@ -1,7 +1,7 @@
 -- Trailer and index are judged, and then the messages are mustered.
 use mathlib.Core.Path.{sym, ap, ◌∙◌}
 use Rattle.recordings.proofs.StatedLaws.{index_stated}
-use Rattle.recordings.proofs.OpenCases.{open-wrong}
+use Rattle.recordings.proofs.OpenCases.{open_wrong}
 use Rattle.ledger_recordings.specs.Reckoning.{reckoned_as}
 use Rattle.ledger_recordings.proofs.ReckonLaws.{reckon_refused}
 use borrow.Author.Rules.{rules}
@@ -25,7 +25,7 @@ muster-each-requires c κs = index_stated _ c.before.before.before.index.ensures
 
 returns : tie.Need-returns
 returns c =
-    let wrong = open-wrong _ c.before.before.before.index.ensures c.before.enum_told.given.1 in
+    let wrong = open_wrong _ c.before.before.before.index.ensures c.before.enum_told.given.1 in
     c.refused.ensures ∙ ap reckoned_as (sym (reckon_refused _ _ _ wrong))
 
 returns-2 : tie.Need-returns-2

@@ -8,7 +8,7 @@ use Rattle.sim0mq.specs.Table.{row_size}
 use Rattle.sim0mq.specs.Views.{judged}
 use Rattle.sim0mq.specs.declared.Judged.{Judged}
 use Rattle.sim0mq_numbers.specs.Numbers.{Below}
-use Rattle.reading.proofs.AnswerCases.{fill-refused, fill-accepted}
+use Rattle.reading.proofs.AnswerCases.{fill_refused, fill_accepted}
 use borrow.Author.Rules.{rules}
 use Rattle.reading.proofs.filled_by.Statement.{statement}
 use Rattle.reading.proofs.filled_by.Tie as tie
@@ -42,7 +42,7 @@ same_length c = search rules
 returns : tie.Need-returns
 returns c =
     let said = sym c.before.before.before.before.before.payload.ensures.0.0 ∙ ap judged c.before.r.given.1 in
-    ((ap judged (sym c.before.r.given.1) ∙ c.before.before.before.before.before.payload.ensures.0.0, tt), fill-refused _ _ _ _ _ c.before.before.before.before.before.before.before.before.before.before.requires _ _ _ said)
+    ((ap judged (sym c.before.r.given.1) ∙ c.before.before.before.before.before.payload.ensures.0.0, tt), fill_refused _ _ _ _ _ c.before.before.before.before.before.before.before.before.before.before.requires _ _ _ said)
 
 same-length-2 : tie.Need-same-length-2
 same-length-2 c = search rules
@@ -56,7 +56,7 @@ returns-2 c =
     let said = sym c.before.before.before.before.before.before.before.before.before.before.payload.ensures.0.0 ∙ ap judged c.before.before.before.before.before.before.steps.given.1 in
     let most = length c.before.before.before.before.before.before.before.before.before.before.before.before.before.before.before.args.message.now + 1 in
     let below = subst (λ (j : Judged). Below most j) c.before.before.before.before.before.before.steps.given.1 c.before.before.before.before.before.before.before.before.before.before.payload.ensures.0.1 in
-    ((sym said, below), fill-accepted _ _ _ _ _ c.before.before.before.before.before.before.before.before.before.before.before.before.before.before.before.requires _ _ _ _ _ said refl c.before.before.before.before.before.before.before.before.before.before.payload.ensures.1 c.before.before.copied.ensures)
+    ((sym said, below), fill_accepted _ _ _ _ _ c.before.before.before.before.before.before.before.before.before.before.before.before.before.before.before.requires _ _ _ _ _ said refl c.before.before.before.before.before.before.before.before.before.before.payload.ensures.1 c.before.before.copied.ensures)
 
 pub filled-by-spec : {M : Type 1} → statement M
 filled-by-spec =

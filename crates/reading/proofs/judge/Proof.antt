@@ -2,8 +2,8 @@
 use mathlib.Core.Path.{sym, ap, ◌∙◌}
 use Rattle.reading_header.specs.declared.Answer.{Answer}
 use Rattle.reading.specs.Answers.{answer_of}
-use Rattle.reading_front.proofs.FrontCases.{told-refused, told-accepted, open-within}
-use Rattle.reading.proofs.AnswerCases.{closed-answer, open-answer, below_most}
+use Rattle.reading_front.proofs.FrontCases.{told_refused, told_accepted, open-within}
+use Rattle.reading.proofs.AnswerCases.{closed_answer, open-answer, below_most}
 use borrow.Author.Rules.{rules}
 use Rattle.reading.proofs.judge.Statement.{statement}
 use Rattle.reading.proofs.judge.Tie as tie
@@ -28,17 +28,17 @@ payload-requires c κs = search rules
 
 told-by-requires : tie.Need-told-by-requires
 told-by-requires c κs =
-    let h = told-accepted _ _ _ _ (sym (ap (λ (x : Answer). x.said) c.before.before.before.before.before.before.before.opened.ensures) ∙ c.before.before.before.before.said2.given.1) in
+    let h = told_accepted _ _ _ _ (sym (ap (λ (x : Answer). x.said) c.before.before.before.before.before.before.before.opened.ensures) ∙ c.before.before.before.before.said2.given.1) in
     below_most _ c.before.payload.result (open-within _ _ h.0 h.1 _ _ h.2 h.3).0 c.before.payload.ensures.0.1
 
 returns : tie.Need-returns
 returns c =
-    let stopped = told-refused _ _ _ _ (sym (ap (λ (x : Answer). x.said) c.before.before.before.before.before.opened.ensures) ∙ c.before.before.said.given.1) in
-    c.refuse.ensures ∙ closed-answer _ _ _ _ stopped
+    let stopped = told_refused _ _ _ _ (sym (ap (λ (x : Answer). x.said) c.before.before.before.before.before.opened.ensures) ∙ c.before.before.said.given.1) in
+    c.refuse.ensures ∙ closed_answer _ _ _ _ stopped
 
 returns-2 : tie.Need-returns-2
 returns-2 c =
-    let h = told-accepted _ _ _ _ (sym (ap (λ (x : Answer). x.said) c.before.before.before.before.before.before.before.before.opened.ensures) ∙ c.before.before.before.before.before.said2.given.1) in
+    let h = told_accepted _ _ _ _ (sym (ap (λ (x : Answer). x.said) c.before.before.before.before.before.before.before.before.opened.ensures) ∙ c.before.before.before.before.before.said2.given.1) in
     let frames = ap (λ (x : Answer). x.frames) c.before.before.before.before.before.before.before.before.opened.ensures ∙ h.4 in
     c.told-by.ensures ∙ ap (answer_of _ _ _) c.before.before.payload.ensures.0.0 ∙ open-answer _ _ h.0 h.1 _ _ h.2 h.3 _ frames
 

@@ -3,7 +3,7 @@ use borrow.Author.Rules.{rules}
 use mathlib.Core.Path.{sym, ap, ◌∙◌}
 use Rattle.sim0mq.specs.Views.{judged}
 use Rattle.reading_heads.specs.Heads.{headed}
-use Rattle.reading_fields.proofs.FieldCases.{outline-head-stop, outline-marks-stop, outline-size-stop, outline-fine}
+use Rattle.reading_fields.proofs.FieldCases.{outline_head_stop, outline-marks-stop, outline-size-stop, outline-fine}
 use Rattle.reading_fields.proofs.outline.Statement.{statement}
 use Rattle.reading_fields.proofs.outline.Tie as tie
 
@@ -35,7 +35,7 @@ enum-known-bytes : tie.Need-enum-known-bytes
 enum-known-bytes c = search rules
 
 returns : tie.Need-returns
-returns c = sym (outline-head-stop _ _ _ _ (sym c.before.before.before.head.ensures ∙ ap headed c.before.r.given.1))
+returns c = sym (outline_head_stop _ _ _ _ (sym c.before.before.before.head.ensures ∙ ap headed c.before.r.given.1))
 
 returns-2 : tie.Need-returns-2
 returns-2 c =

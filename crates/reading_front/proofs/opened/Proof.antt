@@ -4,7 +4,7 @@ use mathlib.Core.Path.{sym, ap, ◌∙◌}
 use Rattle.sim0mq.specs.Message.{enough, limit}
 use Rattle.reading_header.specs.declared.Answer.{Answer}
 use Rattle.reading_header.specs.Frames.{told}
-use Rattle.reading_front.proofs.FrontCases.{told-refused, told-accepted, front_long, front-stop, front-room, front-fine}
+use Rattle.reading_front.proofs.FrontCases.{told_refused, told_accepted, front_long, front_stop, front-room, front-fine}
 use borrow.Author.Rules.{rules}
 use Rattle.reading_front.proofs.opened.Statement.{statement}
 use Rattle.reading_front.proofs.opened.Tie as tie
@@ -31,7 +31,7 @@ enough-requires c κs = search rules
 returns-2 : tie.Need-returns-2
 unfolding limit
 returns-2 c =
-    let h = told-accepted _ _ _ _ (sym (ap (λ (x : Answer). x.said) c.before.before.before.before.before.header.ensures) ∙ c.before.before.before.said.given.1) in
+    let h = told_accepted _ _ _ _ (sym (ap (λ (x : Answer). x.said) c.before.before.before.before.before.header.ensures) ∙ c.before.before.before.said.given.1) in
     let room = ap (enough _) h.2 ∙ sym c.before.enough.ensures ∙ c.if2.true in
     c.before.before.before.before.before.header.ensures ∙ ap (told _) (h.1 ∙ sym (front-fine _ _ (omega arith) h.0 h.1 room))
 
@@ -41,13 +41,13 @@ closed-requires-2 c κs = search rules
 returns-3 : tie.Need-returns-3
 unfolding limit
 returns-3 c =
-    let stopped = told-refused _ _ _ _ (sym (ap (λ (x : Answer). x.said) c.before.before.header.ensures) ∙ c.enum_told.given.1) in
-    c.before.before.header.ensures ∙ ap (told _) (stopped ∙ sym (front-stop _ _ (omega arith) _ _ stopped))
+    let stopped = told_refused _ _ _ _ (sym (ap (λ (x : Answer). x.said) c.before.before.header.ensures) ∙ c.enum_told.given.1) in
+    c.before.before.header.ensures ∙ ap (told _) (stopped ∙ sym (front_stop _ _ (omega arith) _ _ stopped))
 
 returns-4 : tie.Need-returns-4
 unfolding limit
 returns-4 c =
-    let h = told-accepted _ _ _ _ (sym (ap (λ (x : Answer). x.said) c.before.before.before.before.before.before.header.ensures) ∙ c.before.before.before.before.said.given.1) in
+    let h = told_accepted _ _ _ _ (sym (ap (λ (x : Answer). x.said) c.before.before.before.before.before.before.header.ensures) ∙ c.before.before.before.before.said.given.1) in
     let room = ap (enough _) h.2 ∙ sym c.before.before.enough.ensures ∙ c.before.if2.false in
     c.closed2.ensures ∙ ap (told _) (sym (front-room _ _ (omega arith) h.0 h.1 room))
 

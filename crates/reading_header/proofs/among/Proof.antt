@@ -5,7 +5,7 @@ use Prim.Native.Nat.{◌≤◌, ◌-◌}
 use mathlib.Core.Path.{◌≡◌, refl, sym, ◌∙◌}
 use lib.ListN.{length, drop}
 use Rattle.sim0mq.specs.Header.{among}
-use Rattle.reading_header.proofs.FrameCases.{among-here, among_later, among_none}
+use Rattle.reading_header.proofs.FrameCases.{among_here, among_later, among_none}
 use Rattle.reading_header.proofs.among.Statement.{statement}
 use Rattle.reading_header.proofs.among.Tie as tie
 
@@ -22,7 +22,7 @@ shared-slice-read-if1 : tie.Need-shared-slice-read-if1 invariant-loop decreases-
 shared-slice-read-if1 c = search rules
 
 returns : tie.Need-returns invariant-loop decreases-loop
-returns c = among-here _ c.before.before.before.before.args.row.now c.before.before.before.loop.i (omega arith) c.if1.true ∙ sym c.before.before.before.loop.invariant.0
+returns c = among_here _ c.before.before.before.before.args.row.now c.before.before.before.loop.i (omega arith) c.if1.true ∙ sym c.before.before.before.loop.invariant.0
 
 add-i : tie.Need-overflow-add-i invariant-loop decreases-loop
 add-i c = search rules

@@ -8,7 +8,7 @@ use Rattle.sim0mq.proofs.Rows.{count_scalar, count_not_boolean}
 use Rattle.sim0mq.proofs.HeaderLaws.{frame_scalar}
 use Rattle.reading_fields.specs.Items.{fielded}
 use Rattle.sim0mq_numbers.proofs.NumberCases.{number_there}
-use Rattle.reading_header.proofs.FrameCases.{declared-stop, declared-negative, declared-over, declared-fine}
+use Rattle.reading_header.proofs.FrameCases.{declared_stop, declared-negative, declared-over, declared-fine}
 use Rattle.reading_header.proofs.declared.Statement.{statement}
 use Rattle.reading_header.proofs.declared.Tie as tie
 
@@ -40,7 +40,7 @@ returns-2 c =
     sym (declared-over _ _ _ taken _ (omega arith) (c.before.number.ensures.0 ∙ number_there _ _ _ there.1 there.2) c.if2.true)
 
 returns-3 : tie.Need-returns-3
-returns-3 c = sym (declared-stop _ _ _ _ (sym c.before.before.before.type-inv.ensures ∙ ap fielded c.before.r.given.1))
+returns-3 c = sym (declared_stop _ _ _ _ (sym c.before.before.before.type-inv.ensures ∙ ap fielded c.before.r.given.1))
 
 returns-4 : tie.Need-returns-4
 returns-4 c =

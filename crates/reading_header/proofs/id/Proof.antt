@@ -2,7 +2,7 @@
 use native.Mathlib.Omega.{arith}
 use borrow.Author.Rules.{rules}
 use mathlib.Core.Path.{sym, ◌∙◌}
-use Rattle.reading_header.proofs.TextLaws.{text_told, text-taken}
+use Rattle.reading_header.proofs.TextLaws.{text_told, text_taken_lem}
 use Rattle.reading_header.proofs.id.Statement.{statement}
 use Rattle.reading_header.proofs.id.Tie as tie
 
@@ -21,7 +21,7 @@ add-t5 c = let text = text_told _ _ (sym c.before.before.is-text.ensures ∙ c.b
 returns : tie.Need-returns
 returns c =
     let text = text_told _ _ (sym c.before.before.is-text.ensures ∙ c.before.if1.true) in
-    text-taken _ _ _ text c.number.ensures.0
+    text_taken_lem _ _ _ text c.number.ensures.0
 
 any-id-requires : tie.Need-any-id-requires
 any-id-requires c κs = search rules

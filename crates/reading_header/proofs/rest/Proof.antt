@@ -13,7 +13,7 @@ use Rattle.sim0mq.specs.Field.{after}
 use Rattle.sim0mq.specs.Header as H
 use Rattle.reading_fields.specs.Items.{fielded}
 use Rattle.reading_header.specs.Frames.{counted, header_from, header_rest, shown, told}
-use Rattle.reading_header.proofs.FrameCases.{frames-stop, frames-more, frames-last-stop, frames-last, frames_stored, frames_all, nth-goes, declared-goes}
+use Rattle.reading_header.proofs.FrameCases.{frames_stop, frames_more, frames_last_stop, frames_last, frames_stored, frames_all, nth_goes, declared_goes}
 use Rattle.reading_header.proofs.rest.Statement.{statement}
 use Rattle.reading_header.proofs.rest.Tie as tie
 
@@ -51,7 +51,7 @@ returns : tie.Need-returns invariant-loop decreases-loop
 returns c =
     let stopped = sym c.before.before.before.before.nth.ensures ∙ ap fielded c.before.before.r.given.1 in
     c.refused.ensures
-    ∙ sym (ap (told c.before.before.before.before.before.before.before.before.args.frames) (c.before.before.before.before.before.before.loop.invariant.0 ∙ frames-stop _ _ _ _ _ (7 - (c.before.before.before.before.before.before.loop.k + 1)) _ _ (omega arith) stopped))
+    ∙ sym (ap (told c.before.before.before.before.before.before.before.before.args.frames) (c.before.before.before.before.before.before.loop.invariant.0 ∙ frames_stop _ _ _ _ _ (7 - (c.before.before.before.before.before.before.loop.k + 1)) _ _ (omega arith) stopped))
 
 enum-known-f : tie.Need-enum-known-f invariant-loop decreases-loop
 enum-known-f c = search rules
@@ -64,7 +64,7 @@ array-set-from-fs-2 c = search rules
 
 add_at : tie.Need-overflow-add-at invariant-loop decreases-loop
 unfolding after
-add_at c = let g = nth-goes _ _ _ _ (sym c.before.before.before.before.nth.ensures ∙ ap fielded c.before.before.f.given.1) in omega arith
+add_at c = let g = nth_goes _ _ _ _ (sym c.before.before.before.before.nth.ensures ∙ ap fielded c.before.before.f.given.1) in omega arith
 
 add-k : tie.Need-overflow-add-k invariant-loop decreases-loop
 add-k c = search rules
@@ -81,7 +81,7 @@ loop-again c =
     let f : Frame = record { place = c.before.before.f.given.0.0.place; code = c.before.before.f.given.0.0.code } in
     let at : ℕ = c.before.before.f.given.0.0.first + c.before.before.f.given.0.0.size in (
       c.before.before.before.before.before.before.loop.invariant.0
-          ∙ frames-more _ _ _ _ _ (7 - (k + 1)) _ (omega arith) taken
+          ∙ frames_more _ _ _ _ _ (7 - (k + 1)) _ (omega arith) taken
           ∙ ap (λ (l : List H.Frame). header_from c.before.before.before.before.before.before.before.before.args.s.now (7 - (k + 1)) (k + 1) l at) (frames_stored fs k f (omega arith)),
       omega arith,
       length-set fs k f ∙ c.before.before.before.before.before.before.loop.invariant.2,
@@ -104,13 +104,13 @@ array-set-from-fs-3 c = search rules
 
 add-t26 : tie.Need-overflow-add-t26 invariant-loop decreases-loop
 unfolding after
-add-t26 c = let g = declared-goes _ _ _ (sym c.before.before.before.before.before.declared.ensures ∙ ap counted c.before.before.before.c.given.1) in omega arith
+add-t26 c = let g = declared_goes _ _ _ (sym c.before.before.before.before.before.declared.ensures ∙ ap counted c.before.before.before.c.given.1) in omega arith
 
 returns-2 : tie.Need-returns-2 invariant-loop decreases-loop
 returns-2 c =
     let stopped = sym c.before.before.before.before.declared.ensures ∙ ap counted c.before.before.r2.given.1 in
     c.refused2.ensures
-    ∙ sym (ap (told c.before.before.before.before.before.before.before.before.args.frames) (c.before.before.before.before.before.before.loop.invariant.0 ∙ frames-last-stop _ _ _ _ _ _ _ (omega arith) stopped))
+    ∙ sym (ap (told c.before.before.before.before.before.before.before.before.args.frames) (c.before.before.before.before.before.before.loop.invariant.0 ∙ frames_last_stop _ _ _ _ _ _ _ (omega arith) stopped))
 
 returns-3 : tie.Need-returns-3 invariant-loop decreases-loop
 unfolding after
@@ -125,7 +125,7 @@ returns-3 c =
     =
     c.before.before.before.before.before.before.before.loop.invariant.0
     ∙ ap (λ (j : ℕ). header_from s (7 - j) j (map shown (take j fs)) at) seven
-    ∙ frames-last s 7 (map shown (take 7 fs)) at 0 _ _ refl taken in
+    ∙ frames_last s 7 (map shown (take 7 fs)) at 0 _ _ refl taken in
     sym (ap (told c.before.before.before.before.before.before.before.before.before.args.frames) whole ∙ ap (answer _) (frames_all fs f c.before.before.before.before.before.before.before.loop.invariant.2))
 
 pub rest-spec : {M : Type 1} → statement M

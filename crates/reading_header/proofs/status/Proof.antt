@@ -6,7 +6,7 @@ use Rattle.sim0mq.specs.Header.{status_codes}
 use Rattle.sim0mq.proofs.Rows.{status_scalar, status_not_boolean}
 use Rattle.sim0mq.proofs.HeaderLaws.{frame_scalar}
 use Rattle.reading_fields.specs.Items.{fielded}
-use Rattle.reading_header.proofs.FrameCases.{status-stop, status-low, status-high, status-fine}
+use Rattle.reading_header.proofs.FrameCases.{status_stop, status-low, status-high, status-fine}
 use Rattle.reading_header.proofs.status.Statement.{statement}
 use Rattle.reading_header.proofs.status.Tie as tie
 
@@ -32,7 +32,7 @@ returns-2 : tie.Need-returns-2
 returns-2 c = sym (status-high _ _ _ (sym c.before.before.before.before.before.before.type-inv.ensures ∙ ap fielded c.before.before.before.before.f.given.1) (omega arith) c.if2.true)
 
 returns-3 : tie.Need-returns-3
-returns-3 c = sym (status-stop _ _ _ _ (sym c.before.before.before.type-inv.ensures ∙ ap fielded c.before.r.given.1))
+returns-3 c = sym (status_stop _ _ _ _ (sym c.before.before.before.type-inv.ensures ∙ ap fielded c.before.r.given.1))
 
 returns-4 : tie.Need-returns-4
 returns-4 c = sym (status-fine _ _ _ (sym c.before.before.before.before.before.before.type-inv.ensures ∙ ap fielded c.before.before.before.before.f.given.1) (omega arith) (omega arith))

@@ -2,12 +2,12 @@
 use native.Mathlib.Omega.{arith}
 use borrow.Author.Rules.{rules}
 use mathlib.Core.Path.{sym, ◌∙◌}
-use Rattle.reading_header.proofs.FrameCases.{frame-short, frame-wrong, frame_outline}
+use Rattle.reading_header.proofs.FrameCases.{frame_short, frame_wrong, frame_outline}
 use Rattle.reading_header.proofs.typed.Statement.{statement}
 use Rattle.reading_header.proofs.typed.Tie as tie
 
 returns : tie.Need-returns
-returns c = sym (frame-short _ _ _ (omega arith))
+returns c = sym (frame_short _ _ _ (omega arith))
 
 shared-slice-read-among : tie.Need-shared-slice-read-among
 shared-slice-read-among c = search rules
@@ -22,7 +22,7 @@ returns-2 : tie.Need-returns-2
 returns-2 c = c.outline.ensures ∙ frame_outline _ _ _ (omega arith) (sym c.before.before.among.ensures ∙ c.before.if2.true) c.before.before.before.before.before.before.before.requires
 
 returns-3 : tie.Need-returns-3
-returns-3 c = sym (frame-wrong _ _ _ (omega arith) (sym c.before.among.ensures ∙ c.if2.false))
+returns-3 c = sym (frame_wrong _ _ _ (omega arith) (sym c.before.among.ensures ∙ c.if2.false))
 
 pub typed_spec : {M : Type 1} → statement M
 typed_spec =

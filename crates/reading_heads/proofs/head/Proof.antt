@@ -5,12 +5,12 @@ use mathlib.Core.Path.{sym, ap, ◌∙◌, subst}
 use Rattle.sim0mq.specs.declared.Judged.{Judged}
 use Rattle.sim0mq.specs.Views.{judged}
 use Rattle.sim0mq_numbers.specs.Numbers.{Below}
-use Rattle.reading_heads.proofs.HeadCases.{head-short, head-over, head-none, head-stop, head-one, head-second, head-two}
+use Rattle.reading_heads.proofs.HeadCases.{head_short, head_over, head-none, head-stop, head-one, head-second, head-two}
 use Rattle.reading_heads.proofs.head.Statement.{statement}
 use Rattle.reading_heads.proofs.head.Tie as tie
 
 returns : tie.Need-returns
-returns c = sym (head-short _ _ (omega arith))
+returns c = sym (head_short _ _ (omega arith))
 
 shared-slice-read-wide : tie.Need-shared-slice-read-wide
 shared-slice-read-wide c = search rules
@@ -19,7 +19,7 @@ wide-requires : tie.Need-wide-requires
 wide-requires c κs = search rules
 
 returns-2 : tie.Need-returns-2
-returns-2 c = sym (head-over _ _ c.before.wide.result (omega arith) c.before.wide.ensures.0 (omega arith))
+returns-2 c = sym (head_over _ _ c.before.wide.result (omega arith) c.before.wide.ensures.0 (omega arith))
 
 add-p : tie.Need-overflow-add-p
 add-p c = search rules

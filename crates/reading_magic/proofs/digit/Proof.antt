@@ -2,7 +2,7 @@
 use native.Mathlib.Omega.{arith}
 use borrow.Author.Rules.{rules}
 use mathlib.Core.Path.{sym, ◌∙◌}
-use Rattle.reading_magic.proofs.MagicCases.{digit-short, digit_low, digit-high, digit-fine}
+use Rattle.reading_magic.proofs.MagicCases.{digit_short, digit_low, digit_high, digit_fine}
 use Rattle.reading_magic.proofs.digit.Statement.{statement}
 use Rattle.reading_magic.proofs.digit.Tie as tie
 
@@ -10,7 +10,7 @@ refuse-requires : tie.Need-refuse-requires
 refuse-requires c κs = search rules
 
 returns : tie.Need-returns
-returns c = c.refuse.ensures ∙ sym (digit-short _ _ (omega arith))
+returns c = c.refuse.ensures ∙ sym (digit_short _ _ (omega arith))
 
 shared-slice-read-wide : tie.Need-shared-slice-read-wide
 shared-slice-read-wide c = search rules
@@ -28,10 +28,10 @@ refuse-requires-3 : tie.Need-refuse-requires-3
 refuse-requires-3 c κs = search rules
 
 returns-3 : tie.Need-returns-3
-returns-3 c = c.refuse3.ensures ∙ sym (digit-high _ _ (omega arith) (omega arith) (omega arith))
+returns-3 c = c.refuse3.ensures ∙ sym (digit_high _ _ (omega arith) (omega arith) (omega arith))
 
 returns-4 : tie.Need-returns-4
-returns-4 c = sym (digit-fine _ _ _ (omega arith) c.before.before.wide.ensures.0 (omega arith) (omega arith))
+returns-4 c = sym (digit_fine _ _ _ (omega arith) c.before.before.wide.ensures.0 (omega arith) (omega arith))
 
 pub digit-spec : {M : Type 1} → statement M
 digit-spec =

@@ -2,7 +2,7 @@
 use borrow.Author.Rules.{rules}
 use mathlib.Core.Path.{sym, ap, ◌∙◌}
 use Rattle.sim0mq.specs.Views.{judged}
-use Rattle.reading_magic.proofs.MagicCases.{magic-stop, magic-first, magic-second, magic-edition}
+use Rattle.reading_magic.proofs.MagicCases.{magic_stop, magic-first, magic-second, magic-edition}
 use Rattle.reading_magic.proofs.each_byte.Statement.{statement}
 use Rattle.reading_magic.proofs.each_byte.Tie as tie
 
@@ -37,7 +37,7 @@ edition-requires : tie.Need-edition-requires
 edition-requires c κs = search rules
 
 returns : tie.Need-returns
-returns c = sym (magic-stop _ _ _ (sym c.before.before.before.literal.ensures ∙ ap judged c.before.r.given.1))
+returns c = sym (magic_stop _ _ _ (sym c.before.before.before.literal.ensures ∙ ap judged c.before.r.given.1))
 
 returns-2 : tie.Need-returns-2
 returns-2 c =

@@ -1,12 +1,12 @@
 -- Each return is a case of the definition.
 use native.Mathlib.Omega.{arith}
 use borrow.Author.Rules.{rules}
-use Rattle.reading_magic.proofs.ThreeNumbers.{frame-0-short, frame-0-first, frame-0-next, frame-0-digits}
+use Rattle.reading_magic.proofs.ThreeNumbers.{frame_0_short, frame-0-first, frame-0-next, frame-0-digits}
 use Rattle.reading_magic.proofs.is_frame_0.Statement.{statement}
 use Rattle.reading_magic.proofs.is_frame_0.Tie as tie
 
 returns : tie.Need-returns
-returns c = frame-0-short _ (omega arith)
+returns c = frame_0_short _ (omega arith)
 
 number-requires : tie.Need-number-requires
 number-requires c κs = search rules

@@ -2,7 +2,7 @@
 use native.Mathlib.Omega.{arith}
 use borrow.Author.Rules.{rules}
 use mathlib.Core.Path.{sym, ◌∙◌}
-use Rattle.reading_magic.proofs.ThreeNumbers.{frame-0-taken}
+use Rattle.reading_magic.proofs.ThreeNumbers.{frame_0_taken}
 use Rattle.reading_magic.proofs.magic.Statement.{statement}
 use Rattle.reading_magic.proofs.magic.Tie as tie
 
@@ -13,7 +13,7 @@ returns : tie.Need-returns
 returns c =
     let fits = c.before.before.shared-slice-known.given in
     let told = sym c.before.is-frame-0.ensures ∙ c.if1.true in
-    frame-0-taken _ (λ i. omega (arith, fits i)) told
+    frame_0_taken _ (λ i. omega (arith, fits i)) told
 
 each-byte-requires : tie.Need-each-byte-requires
 each-byte-requires c κs = search rules

@@ -3,12 +3,12 @@ use borrow.Author.Rules.{rules}
 use native.Mathlib.Omega.{arith}
 use mathlib.Core.Path.{◌∙◌}
 use Rattle.sim0mq.specs.Table.{row_size}
-use Rattle.reading_parts.proofs.KeptCases.{kept-before, kept_here, kept_full}
+use Rattle.reading_parts.proofs.KeptCases.{kept_before, kept_here, kept_full}
 use Rattle.reading_parts.proofs.keep.Statement.{statement}
 use Rattle.reading_parts.proofs.keep.Tie as tie
 
 returns : tie.Need-returns
-returns c = kept-before _ _ _ _ _ c.if1.true
+returns c = kept_before _ _ _ _ _ c.if1.true
 
 mul-store : tie.Need-overflow-mul-store
 unfolding row_size

@@ -8,7 +8,7 @@ use lib.ListN.{length}
 use Rattle.sim0mq.specs.Payload.{moved}
 use Rattle.reading_runs.specs.Runs.{alike_fields, far}
 use Rattle.reading_parts.specs.Kept.{kept_all, Small}
-use Rattle.reading_parts.proofs.RunCases.{run-done, run_reach, run_start, run_kept, run_next, run_small}
+use Rattle.reading_parts.proofs.RunCases.{run_done, run_reach, run_start, run_kept, run_next, run_small}
 use Rattle.reading_parts.proofs.keep_each.Statement.{statement}
 use Rattle.reading_parts.proofs.keep_each.Tie as tie
 
@@ -96,7 +96,7 @@ returns c =
     let run = c.before.before.before.before.before.args.run in
     let inv = c.before.loop.invariant in
     let left : run.fields - c.before.loop.j ≡ 0 = omega arith in
-    sym (inv.0 ∙ run-done _ _ _ _ _ _ _ _ _ left)
+    sym (inv.0 ∙ run_done _ _ _ _ _ _ _ _ _ left)
 
 pub keep-each-spec : {M : Type 1} → statement M
 keep-each-spec =

@@ -3,7 +3,7 @@ use borrow.Author.Rules.{rules}
 use native.Mathlib.Omega.{arith}
 use mathlib.Core.Path.{sym, ◌∙◌}
 use Rattle.sim0mq.specs.Table.{row_size}
-use Rattle.reading_parts.proofs.LeadCases.{agrees-keepable, lead-agrees, lead-differs}
+use Rattle.reading_parts.proofs.LeadCases.{agrees_keepable, lead_agrees, lead_differs}
 use Rattle.reading_parts.proofs.keep_lead.Statement.{statement}
 use Rattle.reading_parts.proofs.keep_lead.Tie as tie
 
@@ -13,7 +13,7 @@ agrees-requires c κs = search rules
 keep-run-requires : tie.Need-keep-run-requires
 unfolding row_size
 keep-run-requires c κs =
-    (omega arith, agrees-keepable _ _ _ (sym c.before.before.agrees.ensures ∙ c.before.if1.true))
+    (omega arith, agrees_keepable _ _ _ (sym c.before.before.agrees.ensures ∙ c.before.if1.true))
 
 same_length : tie.Need-same-length
 same_length c = search rules
@@ -21,10 +21,10 @@ same_length c = search rules
 returns : tie.Need-returns
 unfolding row_size
 returns c =
-    c.before.before.keep_run.ensures ∙ lead-agrees _ _ _ (sym c.before.before.before.before.before.agrees.ensures ∙ c.before.before.before.before.if1.true)
+    c.before.before.keep_run.ensures ∙ lead_agrees _ _ _ (sym c.before.before.before.before.before.agrees.ensures ∙ c.before.before.before.before.if1.true)
 
 returns-2 : tie.Need-returns-2
-returns-2 c = lead-differs _ _ _ (sym c.before.agrees.ensures ∙ c.if1.false)
+returns-2 c = lead_differs _ _ _ (sym c.before.agrees.ensures ∙ c.if1.false)
 
 pub keep-lead-spec : {M : Type 1} → statement M
 keep-lead-spec =

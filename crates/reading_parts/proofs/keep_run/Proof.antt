@@ -3,12 +3,12 @@ use borrow.Author.Rules.{rules}
 use native.Mathlib.Omega.{arith}
 use mathlib.Core.Path.{sym, subst}
 use Rattle.reading_parts.specs.Kept.{Small}
-use Rattle.reading_parts.proofs.RunCases.{run-unkept, run_one, run_small, run_step}
+use Rattle.reading_parts.proofs.RunCases.{run_unkept, run_one, run_small, run_step}
 use Rattle.reading_parts.proofs.keep_run.Statement.{statement}
 use Rattle.reading_parts.proofs.keep_run.Tie as tie
 
 returns : tie.Need-returns
-returns c = run-unkept _ _ _ _ _ _ _ _ _ c.if1.true
+returns c = run_unkept _ _ _ _ _ _ _ _ _ c.if1.true
 
 field-at-requires : tie.Need-field-at-requires
 field-at-requires c κs =

@@ -7,7 +7,7 @@ use lib.ListN.{length}
 use Rattle.sim0mq_numbers.specs.Numbers.{Below}
 use Rattle.reading_parts.specs.Parts.{part_steps}
 use Rattle.reading_parts.specs.Kept.{kept_rest, kept_part}
-use Rattle.reading_parts.proofs.PartCases.{rest-start}
+use Rattle.reading_parts.proofs.PartCases.{rest_start}
 use Rattle.reading_parts.proofs.part.Statement.{statement}
 use Rattle.reading_parts.proofs.part.Tie as tie
 
@@ -23,7 +23,7 @@ returns c =
     let said = c.before.before.part-from.ensures in
     let asked = c.before.before.before.before.before.before.args in
     let all : length asked.s.now - 0 + 1 ≡ length asked.s.now + 1 = omega arith in
-    ((said.0.0 ∙ rest-start _ 0 _ (omega arith), subst (λ (n : ℕ). Below n c.before.before.part-from.result) all said.0.1), said.1)
+    ((said.0.0 ∙ rest_start _ 0 _ (omega arith), subst (λ (n : ℕ). Below n c.before.before.part-from.result) all said.0.1), said.1)
 
 pub part-spec : {M : Type 1} → statement M
 part-spec = tie.close (tie.spec part-from-requires same_length returns)

@@ -16,11 +16,11 @@ use Rattle.reading_heads.specs.Heads.{headed}
 use Rattle.reading_runs.proofs.RunLaws.{lead}
 use Rattle.reading_parts.specs.Parts.{steps_from, rest_steps}
 use Rattle.reading_parts.specs.Kept.{before_fault, kept_all, kept_rest}
-use Rattle.sim0mq_marks.proofs.MarkCases.{marks-done, marks-more, marks-stop}
+use Rattle.sim0mq_marks.proofs.MarkCases.{marks_done, marks_more, marks_stop}
 use Rattle.sim0mq_marks.proofs.ByLaws.{mark_by_last}
-use Rattle.reading_parts.proofs.PartCases.{mark-goes, head-goes, values-goes, field-head-stop, field-mark-stop, field-values-stop, field-taken, taken-end, field_small, rest-short, rest-start, steps-over, steps-end, steps-stop, steps-more}
-use Rattle.reading_parts.proofs.KeptCases.{rows_room, rows_some, kept_short, kept_start, kept-end, kept-stop, kept_more}
-use Rattle.reading_parts.proofs.RunCases.{run_goes, run_far, steps-run, kept_run}
+use Rattle.reading_parts.proofs.PartCases.{mark_goes, head_goes, values_goes, field_head_stop, field-mark-stop, field-values-stop, field-taken, taken-end, field_small, rest_short, rest_start, steps_over, steps_end, steps_stop, steps_more}
+use Rattle.reading_parts.proofs.KeptCases.{rows_room, rows_some, kept_short, kept_start, kept_end, kept_stop, kept_more}
+use Rattle.reading_parts.proofs.RunCases.{run_goes, run_far, steps_run, kept_run}
 use Rattle.reading_parts.proofs.part_from.Statement.{statement}
 use Rattle.reading_parts.proofs.part_from.Tie as tie
 
@@ -45,7 +45,7 @@ abbrev decreases-fields : tie.decreases-fields
 decreases-fields s base from n k kept₀ many last left₀ at₀ steps₀ kept left at steps = left
 
 returns : tie.Need-returns invariant-loop decreases-loop invariant-fields decreases-fields
-returns c = ((sym (rest-short _ _ _ c.if1.true), tt), kept_short _ _ _ _ _ _ c.if1.true)
+returns c = ((sym (rest_short _ _ _ c.if1.true), tt), kept_short _ _ _ _ _ _ c.if1.true)
 
 rows-requires : tie.Need-rows-requires invariant-loop decreases-loop invariant-fields decreases-fields
 rows-requires c κs = search rules
@@ -56,7 +56,7 @@ lasts-requires c κs = search rules
 fields-holds : tie.Need-fields-init invariant-loop decreases-loop invariant-fields decreases-fields
 fields-holds c =
     let fits = c.before.before.before.before.shared-slice-known.given in
-    (rest-start _ _ _ (omega arith), omega arith, omega arith, kept_start _ _ _ _ _ _ _ c.before.rows.ensures, omega arith, refl, omega arith)
+    (rest_start _ _ _ (omega arith), omega arith, omega arith, kept_start _ _ _ _ _ _ _ c.before.rows.ensures, omega arith, refl, omega arith)
 
 run-at-requires : tie.Need-run-at-requires invariant-loop decreases-loop invariant-fields decreases-fields
 run-at-requires c κs = search rules
@@ -111,7 +111,7 @@ fields-again c =
     let left = c.before.before.before.before.before.before.before.before.before.before.fields.left in
     let fields = c.before.before.before.before.before.before.before.before.run_at.result.fields in
     let kept = kept_run _ _ _ _ _ _ fields left (left - fields) _ (n - left) (n - (left - fields)) _ _ _ _ inv.3 run.stand run.ends (omega arith) (omega arith) c.before.before.before.before.keep_run.ensures in
-    (inv.0 ∙ steps-run _ 0 _ _ fields left (left - fields) _ _ _ _ run.stand run.ends (omega arith) refl, omega arith, run.within inv.2, kept.0, omega arith, kept.1 ∙ inv.5, inv.6)
+    (inv.0 ∙ steps_run _ 0 _ _ fields left (left - fields) _ _ _ _ run.stand run.ends (omega arith) refl, omega arith, run.within inv.2, kept.0, omega arith, kept.1 ∙ inv.5, inv.6)
 
 head-requires : tie.Need-head-requires invariant-loop decreases-loop invariant-fields decreases-fields
 head-requires c κs = search rules
@@ -124,7 +124,7 @@ enum-known-h c = search rules
 
 loop-holds : tie.Need-loop-init invariant-loop decreases-loop invariant-fields decreases-fields
 loop-holds c =
-    let g = head-goes _ _ _ (sym c.before.before.before.head.ensures ∙ ap headed c.before.h.given.1) in
+    let g = head_goes _ _ _ (sym c.before.before.before.head.ensures ∙ ap headed c.before.h.given.1) in
     let l = g.0 in
     let m = g.1 in
     (refl, omega arith, omega arith)
@@ -148,10 +148,10 @@ loop-again : tie.Need-loop-preserved invariant-loop decreases-loop invariant-fie
 loop-again c =
     let by_Last = mark_by_last _ _ _ c.before.before.before.before.before.before.before.before.before.before.before.before.before.before.before.before.lasts.ensures in
     let taken = sym by_Last ∙ sym c.before.before.before.mark-by.ensures ∙ ap judged c.before.q.given.1 in
-    let g = mark-goes _ _ _ taken in
+    let g = mark_goes _ _ _ taken in
     let l = g.0 in
     let m = g.1 in
-    (c.before.before.before.before.before.before.loop.invariant.0 ∙ marks-more _ _ _ _ _ (omega arith) taken, omega arith, omega arith)
+    (c.before.before.before.before.before.before.loop.invariant.0 ∙ marks_more _ _ _ _ _ (omega arith) taken, omega arith, omega arith)
 
 values-requires : tie.Need-values-requires invariant-loop decreases-loop invariant-fields decreases-fields
 values-requires c κs = search rules
@@ -168,7 +168,7 @@ sub-keep c = search rules
 sub-found : tie.Need-overflow-sub-found invariant-loop decreases-loop invariant-fields decreases-fields
 sub-found c =
     let valued = sym c.before.before.before.before.values.ensures ∙ ap judged c.before.before.e.given.1 in
-    let g = (values-goes _ _ _ _ _ valued).0 in
+    let g = (values_goes _ _ _ _ _ valued).0 in
     omega arith
 
 found-requires : tie.Need-found-requires invariant-loop decreases-loop invariant-fields decreases-fields
@@ -178,7 +178,7 @@ keep-requires : tie.Need-keep-requires invariant-loop decreases-loop invariant-f
 unfolding row_size
 keep-requires c κs =
     let headed-as = sym c.before.before.before.before.before.before.before.before.before.before.before.head.ensures ∙ ap headed c.before.before.before.before.before.before.before.before.before.h.given.1 in
-    let marked = c.before.before.before.before.before.before.before.loop.invariant.0 ∙ marks-done _ _ _ (omega arith) in
+    let marked = c.before.before.before.before.before.before.before.loop.invariant.0 ∙ marks_done _ _ _ (omega arith) in
     let valued = sym c.before.before.before.before.before.values.ensures ∙ ap judged c.before.before.before.e.given.1 in
     let accepted = field-taken _ _ _ headed-as _ marked _ valued in
     let args = c.before.before.before.before.before.before.before.before.before.before.before.before.before.before.before.before.before.before.before.before.before.before.args in
@@ -214,12 +214,12 @@ fields-less-2 c =
 fields-again-2 : tie.Need-fields-preserved-2 invariant-loop decreases-loop invariant-fields decreases-fields
 fields-again-2 c =
     let headed-as = sym c.before.before.before.before.before.before.before.before.before.before.before.before.before.before.before.head.ensures ∙ ap headed c.before.before.before.before.before.before.before.before.before.before.before.before.before.h.given.1 in
-    let marked = c.before.before.before.before.before.before.before.before.before.before.before.loop.invariant.0 ∙ marks-done _ _ _ (omega arith) in
+    let marked = c.before.before.before.before.before.before.before.before.before.before.before.loop.invariant.0 ∙ marks_done _ _ _ (omega arith) in
     let valued = sym c.before.before.before.before.before.before.before.before.before.values.ensures ∙ ap judged c.before.before.before.before.before.before.before.e.given.1 in
     let accepted = field-taken _ _ _ headed-as _ marked _ valued in
     let ends = taken-end _ _ _ headed-as _ _ valued in
     let inv = c.before.before.before.before.before.before.before.before.before.before.before.before.before.before.before.before.before.before.before.before.fields.invariant in
-    let g = values-goes _ _ _ _ _ valued in
+    let g = values_goes _ _ _ _ _ valued in
     let end = g.0 in
     let within = g.1 in
     let counted = c.before.before.before.before.before.before.before.before.before.before.before.loop.invariant.1 in
@@ -228,7 +228,7 @@ fields-again-2 c =
     let some = c.before.before.before.before.before.before.before.before.before.before.before.before.before.before.before.before.before.before.before.if2.false in
     let fewer = inv.4 in
     let kept = kept_more _ _ _ _ _ _ _ _ _ inv.3 (left - 1) (n - (left - 1)) _ _ _ _ (omega arith) accepted ends (omega arith) c.before.before.before.before.found.ensures c.before.before.before.keep.ensures in
-    (inv.0 ∙ steps-more _ _ _ _ (left - 1) _ _ _ (omega arith) accepted ends (omega arith), omega arith, omega arith, kept.0, omega arith, kept.1 ∙ inv.5, inv.6)
+    (inv.0 ∙ steps_more _ _ _ _ (left - 1) _ _ _ (omega arith) accepted ends (omega arith), omega arith, omega arith, kept.0, omega arith, kept.1 ∙ inv.5, inv.6)
 
 same_length : tie.Need-same-length invariant-loop decreases-loop invariant-fields decreases-fields
 same_length c = search rules
@@ -236,7 +236,7 @@ same_length c = search rules
 returns-2 : tie.Need-returns-2 invariant-loop decreases-loop invariant-fields decreases-fields
 returns-2 c =
     let inv = c.before.before.fields.invariant in
-    ((sym (inv.0 ∙ steps-over _ _ _ _ c.before.if2.true c.if3.true), tt), kept-end _ _ _ _ _ _ _ _ _ inv.3 c.before.if2.true)
+    ((sym (inv.0 ∙ steps_over _ _ _ _ c.before.if2.true c.if3.true), tt), kept_end _ _ _ _ _ _ _ _ _ inv.3 c.before.if2.true)
 
 same-length-2 : tie.Need-same-length-2 invariant-loop decreases-loop invariant-fields decreases-fields
 same-length-2 c = search rules
@@ -244,16 +244,16 @@ same-length-2 c = search rules
 returns-3 : tie.Need-returns-3 invariant-loop decreases-loop invariant-fields decreases-fields
 returns-3 c =
     let inv = c.before.before.fields.invariant in
-    ((sym (inv.0 ∙ steps-end _ _ _ _ c.before.if2.true (omega arith)), omega arith), kept-end _ _ _ _ _ _ _ _ _ inv.3 c.before.if2.true)
+    ((sym (inv.0 ∙ steps_end _ _ _ _ c.before.if2.true (omega arith)), omega arith), kept_end _ _ _ _ _ _ _ _ _ inv.3 c.before.if2.true)
 
 same-length-3 : tie.Need-same-length-3 invariant-loop decreases-loop invariant-fields decreases-fields
 same-length-3 c = search rules
 
 returns-4 : tie.Need-returns-4 invariant-loop decreases-loop invariant-fields decreases-fields
 returns-4 c =
-    let stopped = field-head-stop _ _ _ _ (sym c.before.before.before.head.ensures ∙ ap headed c.before.r.given.1) in
+    let stopped = field_head_stop _ _ _ _ (sym c.before.before.before.head.ensures ∙ ap headed c.before.r.given.1) in
     let inv = c.before.before.before.before.before.before.before.before.fields.invariant in
-    ((sym (inv.0 ∙ steps-stop _ _ _ _ _ _ c.before.before.before.before.before.before.before.if2.false stopped), tt), kept-stop _ _ _ _ _ _ _ _ _ inv.3 _ _ stopped)
+    ((sym (inv.0 ∙ steps_stop _ _ _ _ _ _ c.before.before.before.before.before.before.before.if2.false stopped), tt), kept_stop _ _ _ _ _ _ _ _ _ inv.3 _ _ stopped)
 
 same-length-4 : tie.Need-same-length-4 invariant-loop decreases-loop invariant-fields decreases-fields
 same-length-4 c = search rules
@@ -263,10 +263,10 @@ returns-5 c =
     let headed-as = sym c.before.before.before.before.before.before.before.before.before.before.head.ensures ∙ ap headed c.before.before.before.before.before.before.before.before.h.given.1 in
     let by_Last = mark_by_last _ _ _ c.before.before.before.before.before.before.before.before.before.before.before.before.before.before.before.before.lasts.ensures in
     let told = sym by_Last ∙ sym c.before.before.before.mark-by.ensures ∙ ap judged c.before.of-mark.given.1 in
-    let at_mark = c.before.before.before.before.before.before.loop.invariant.0 ∙ marks-stop _ _ _ _ _ (omega arith) told in
+    let at_mark = c.before.before.before.before.before.before.loop.invariant.0 ∙ marks_stop _ _ _ _ _ (omega arith) told in
     let stopped = field-mark-stop _ _ _ headed-as _ _ at_mark in
     let inv = c.before.before.before.before.before.before.before.before.before.before.before.before.before.before.before.fields.invariant in
-    ((sym (inv.0 ∙ steps-stop _ _ _ _ _ _ c.before.before.before.before.before.before.before.before.before.before.before.before.before.before.if2.false stopped), tt), kept-stop _ _ _ _ _ _ _ _ _ inv.3 _ _ stopped)
+    ((sym (inv.0 ∙ steps_stop _ _ _ _ _ _ c.before.before.before.before.before.before.before.before.before.before.before.before.before.before.if2.false stopped), tt), kept_stop _ _ _ _ _ _ _ _ _ inv.3 _ _ stopped)
 
 same-length-5 : tie.Need-same-length-5 invariant-loop decreases-loop invariant-fields decreases-fields
 same-length-5 c = search rules
@@ -274,10 +274,10 @@ same-length-5 c = search rules
 returns-6 : tie.Need-returns-6 invariant-loop decreases-loop invariant-fields decreases-fields
 returns-6 c =
     let headed-as = sym c.before.before.before.before.before.before.before.before.before.head.ensures ∙ ap headed c.before.before.before.before.before.before.before.h.given.1 in
-    let marked = c.before.before.before.before.before.loop.invariant.0 ∙ marks-done _ _ _ (omega arith) in
+    let marked = c.before.before.before.before.before.loop.invariant.0 ∙ marks_done _ _ _ (omega arith) in
     let stopped = field-values-stop _ _ _ headed-as _ marked _ _ (sym c.before.before.before.values.ensures ∙ ap judged c.before.of_values.given.1) in
     let inv = c.before.before.before.before.before.before.before.before.before.before.before.before.before.before.fields.invariant in
-    ((sym (inv.0 ∙ steps-stop _ _ _ _ _ _ c.before.before.before.before.before.before.before.before.before.before.before.before.before.if2.false stopped), tt), kept-stop _ _ _ _ _ _ _ _ _ inv.3 _ _ stopped)
+    ((sym (inv.0 ∙ steps_stop _ _ _ _ _ _ c.before.before.before.before.before.before.before.before.before.before.before.before.before.if2.false stopped), tt), kept_stop _ _ _ _ _ _ _ _ _ inv.3 _ _ stopped)
 
 pub part-from-spec : {M : Type 1} → statement M
 part-from-spec =

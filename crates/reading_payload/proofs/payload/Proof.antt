@@ -10,13 +10,13 @@ use Rattle.sim0mq.specs.Views.{judged}
 use Rattle.sim0mq.specs.declared.Judged.{Judged}
 use Rattle.sim0mq_numbers.specs.Numbers.{Below}
 use Rattle.reading_parts.specs.Parts.{part_steps}
-use Rattle.reading_payload.proofs.PayloadCases.{part_all, refused-within, at-short, at-refused, at-accepted}
+use Rattle.reading_payload.proofs.PayloadCases.{part_all, refused_within, at_short, at_refused, at_accepted}
 use Rattle.reading_payload.proofs.KeptCases.{kept_none, kept_part_lem}
 use Rattle.reading_payload.proofs.payload.Statement.{statement}
 use Rattle.reading_payload.proofs.payload.Tie as tie
 
 returns : tie.Need-returns
-returns c = ((at-short _ _ _ c.if1.true, tt), kept_none _ _ _ _ _ c.if1.true)
+returns c = ((at_short _ _ _ c.if1.true, tt), kept_none _ _ _ _ _ c.if1.true)
 
 sub_part : tie.Need-overflow-sub-part
 sub_part c = search rules
@@ -39,7 +39,7 @@ add-t19 c =
     let next = c.before.before.before.before.before.before.before.before.before.before.before.before.args.next in
     let part = part_all s next in
     let said = sym (ap (λ (l : List ℕ). part_steps l c.before.before.before.before.before.before.before.before.before.before.before.before.args.n) part) ∙ sym c.before.before.before.before.before.before.part.ensures.0.0 ∙ ap judged c.before.before.r.given.1 in
-    let within = refused-within _ _ _ _ said in
+    let within = refused_within _ _ _ _ said in
     let long = length-drop next s in
     let fits = c.before.before.before.before.before.before.before.before.before.before.before.shared-slice-known.given in
     omega arith
@@ -56,7 +56,7 @@ returns-2 c =
     let next = c.before.before.before.before.before.before.before.before.before.before.before.before.args.next in
     let part = part_all s next in
     let said = sym (ap (λ (l : List ℕ). part_steps l c.before.before.before.before.before.before.before.before.before.before.before.before.args.n) part) ∙ sym c.before.before.before.before.before.before.part.ensures.0.0 ∙ ap judged c.before.before.r.given.1 in
-    ((at-refused s next _ (omega arith) _ _ said, tt), c.before.before.before.before.before.before.part.ensures.1 ∙ kept_part_lem s _ next _ _ _ (omega arith) part)
+    ((at_refused s next _ (omega arith) _ _ said, tt), c.before.before.before.before.before.before.part.ensures.1 ∙ kept_part_lem s _ next _ _ _ (omega arith) part)
 
 same-length-2 : tie.Need-same-length-2
 same-length-2 c = search rules
@@ -70,7 +70,7 @@ returns-3 c =
     let long = length-drop next s in
     let all = ap length part in
     let below = subst (λ (j : Judged). Below (length (take (length s - next) (drop next s)) + 1) j) c.before.steps.given.1 c.before.before.before.before.before.part.ensures.0.1 in
-    ((at-accepted s next _ (omega arith) _ said, omega arith), c.before.before.before.before.before.part.ensures.1 ∙ kept_part_lem s _ next _ _ _ (omega arith) part)
+    ((at_accepted s next _ (omega arith) _ said, omega arith), c.before.before.before.before.before.part.ensures.1 ∙ kept_part_lem s _ next _ _ _ (omega arith) part)
 
 pub payload-spec : {M : Type 1} → statement M
 payload-spec =

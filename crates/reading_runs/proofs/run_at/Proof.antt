@@ -3,7 +3,7 @@ use borrow.Author.Rules.{rules}
 use native.Mathlib.Omega.{arith}
 use mathlib.Core.Path.{refl, sym, ap, ◌∙◌}
 use Rattle.reading_runs.specs.Runs.{plain_size}
-use Rattle.reading_runs.proofs.RunCases.{run_none, size_none, run-unasked, run_past, run-unsized, run-sized}
+use Rattle.reading_runs.proofs.RunCases.{run_none, size_none, run_unasked, run_past, run-unsized, run-sized}
 use Rattle.reading_runs.proofs.run_at.Statement.{statement}
 use Rattle.reading_runs.proofs.run_at.Tie as tie
 
@@ -11,7 +11,7 @@ told-requires : tie.Need-told-requires
 told-requires c κs = search rules
 
 returns : tie.Need-returns
-returns c = c.told.ensures ∙ run_none _ ∙ sym (run-unasked _ _ _ c.before.if1.true)
+returns c = c.told.ensures ∙ run_none _ ∙ sym (run_unasked _ _ _ c.before.if1.true)
 
 told-requires-2 : tie.Need-told-requires-2
 told-requires-2 c κs = search rules

@@ -1,7 +1,7 @@
 -- Where no byte is above 1 all are Booleans; else they are judged byte by byte.
 use borrow.Author.Rules.{rules}
 use native.Mathlib.Omega.{arith}
-use Rattle.reading_values.proofs.ValueCases.{none-most, booleans-all}
+use Rattle.reading_values.proofs.ValueCases.{none_most, booleans_all}
 use Rattle.reading_values.proofs.booleans.Statement.{statement}
 use Rattle.reading_values.proofs.booleans.Tie as tie
 
@@ -14,7 +14,7 @@ add-t6 c = search rules
 returns : tie.Need-returns
 returns c =
     let a = c.before.before.before.args in
-    booleans-all a.s.now a.n a.at (none-most a.s.now a.n a.at c.before.largest.result 1 c.before.largest.ensures (omega arith))
+    booleans_all a.s.now a.n a.at (none_most a.s.now a.n a.at c.before.largest.result 1 c.before.largest.ensures (omega arith))
 
 each-boolean-requires : tie.Need-each-boolean-requires
 each-boolean-requires c κs = search rules

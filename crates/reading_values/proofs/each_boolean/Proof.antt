@@ -5,7 +5,7 @@ use Prim.Native.Nat.{◌+◌, ◌≤◌}
 use mathlib.Core.Path.{◌≡◌, refl, sym, ◌∙◌}
 use lib.ListN.{length}
 use Rattle.reading_values.specs.Values.{booleans_end}
-use Rattle.reading_values.proofs.ValueCases.{booleans-done, booleans-more, booleans-stop}
+use Rattle.reading_values.proofs.ValueCases.{booleans_done, booleans_more, booleans_stop}
 use Rattle.reading_values.proofs.each_boolean.Statement.{statement}
 use Rattle.reading_values.proofs.each_boolean.Tie as tie
 
@@ -25,7 +25,7 @@ refuse-requires : tie.Need-refuse-requires invariant-loop decreases-loop
 refuse-requires c κs = search rules
 
 returns : tie.Need-returns invariant-loop decreases-loop
-returns c = c.refuse.ensures ∙ sym (c.before.before.before.before.loop.invariant.0 ∙ booleans-stop _ _ _ (omega arith) c.before.if1.true)
+returns c = c.refuse.ensures ∙ sym (c.before.before.before.before.loop.invariant.0 ∙ booleans_stop _ _ _ (omega arith) c.before.if1.true)
 
 add-p : tie.Need-overflow-add-p invariant-loop decreases-loop
 add-p c = search rules
@@ -37,10 +37,10 @@ loop-less : tie.Need-loop-smaller invariant-loop decreases-loop
 loop-less c = search rules
 
 loop-again : tie.Need-loop-preserved invariant-loop decreases-loop
-loop-again c = (c.before.before.before.loop.invariant.0 ∙ booleans-more _ _ _ _ (omega arith) (omega arith), omega arith)
+loop-again c = (c.before.before.before.loop.invariant.0 ∙ booleans_more _ _ _ _ (omega arith) (omega arith), omega arith)
 
 returns-2 : tie.Need-returns-2 invariant-loop decreases-loop
-returns-2 c = sym (c.before.loop.invariant.0 ∙ booleans-done _ _ _ (omega arith))
+returns-2 c = sym (c.before.loop.invariant.0 ∙ booleans_done _ _ _ (omega arith))
 
 pub each-boolean-spec : {M : Type 1} → statement M
 each-boolean-spec =

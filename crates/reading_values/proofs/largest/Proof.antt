@@ -6,7 +6,7 @@ use Prim.Native.Nat.{ℕ, ◌+◌, ◌-◌, ◌≤◌}
 use mathlib.Core.Path.{◌≡◌, subst}
 use lib.ListN.{length}
 use Rattle.reading_values.specs.Values.{NoneAbove}
-use Rattle.reading_values.proofs.ValueCases.{none_more, none-most}
+use Rattle.reading_values.proofs.ValueCases.{none_more, none_most}
 use Rattle.reading_values.proofs.largest.Statement.{statement}
 use Rattle.reading_values.proofs.largest.Tie as tie
 
@@ -35,7 +35,7 @@ loop-again : tie.Need-loop-preserved invariant-loop decreases-loop
 loop-again c =
     let l = c.before.before.before.loop in
     let a = c.before.before.before.before.args in
-    (omega arith, none_more a.s.now l.i a.at _ (none-most a.s.now l.i a.at l.most _ l.invariant.1 (omega arith)) (omega arith), omega arith)
+    (omega arith, none_more a.s.now l.i a.at _ (none_most a.s.now l.i a.at l.most _ l.invariant.1 (omega arith)) (omega arith), omega arith)
 
 loop-less-2 : tie.Need-loop-smaller-2 invariant-loop decreases-loop
 loop-less-2 c = search rules

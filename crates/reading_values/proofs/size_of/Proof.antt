@@ -6,7 +6,7 @@ use mathlib.Core.Path.{sym, ◌∙◌, ◌≡◌}
 use mathlib.Core.Bool.{true}
 use lib.Dec.{leb}
 use borrow.Author.Tests.{leb-true}
-use Rattle.reading_values.proofs.ValueCases.{size_fits, size-short}
+use Rattle.reading_values.proofs.ValueCases.{size_fits, size_short}
 use Rattle.reading_values.proofs.size_of.Statement.{statement}
 use Rattle.reading_values.proofs.size_of.Tie as tie
 
@@ -30,7 +30,7 @@ refuse-requires : tie.Need-refuse-requires
 refuse-requires c κs = search rules
 
 returns-2 : tie.Need-returns-2
-returns-2 c = c.refuse.ensures ∙ sym (size-short _ _ _ _ (omega arith) (sym c.before.before.fits2.ensures ∙ c.before.if1.false))
+returns-2 c = c.refuse.ensures ∙ sym (size_short _ _ _ _ (omega arith) (sym c.before.before.fits2.ensures ∙ c.before.if1.false))
 
 pub size-of-spec : {M : Type 1} → statement M
 size-of-spec = tie.close (tie.spec sub-fits fits-requires mul-t8 returns refuse-requires returns-2)

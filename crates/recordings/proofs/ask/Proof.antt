@@ -2,7 +2,7 @@
 use mathlib.Core.Path.{sym, ap, ◌∙◌}
 use Rattle.sim0mq.specs.Views.{judged}
 use Rattle.recordings.proofs.StatedLaws.{index_stated, entry-lies}
-use Rattle.recordings.proofs.OpenCases.{ask-wrong, ask-none, ask-refused, ask-found}
+use Rattle.recordings.proofs.OpenCases.{ask_wrong, ask-none, ask-refused, ask-found}
 use borrow.Author.Rules.{rules}
 use Rattle.recordings.proofs.ask.Statement.{statement}
 use Rattle.recordings.proofs.ask.Tie as tie
@@ -40,7 +40,7 @@ enum-told-2 : tie.Need-enum-told-2
 enum-told-2 c = search rules
 
 returns-2 : tie.Need-returns-2
-returns-2 c = ask-wrong _ c.before.before.index.ensures c.enum_told.given.1 _
+returns-2 c = ask_wrong _ c.before.before.index.ensures c.enum_told.given.1 _
 
 returns-3 : tie.Need-returns-3
 returns-3 c =

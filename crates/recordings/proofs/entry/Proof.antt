@@ -1,12 +1,12 @@
 -- Entry k stands in the index, and states the start and the length of message k.
 use native.Mathlib.Omega.{arith}
-use Rattle.recordings.proofs.StatedLaws.{stated-narrow, entry-room, entry-is, entry-narrow}
+use Rattle.recordings.proofs.StatedLaws.{stated_narrow, entry-room, entry-is, entry-narrow}
 use borrow.Author.Rules.{rules}
 use Rattle.recordings.proofs.entry.Statement.{statement}
 use Rattle.recordings.proofs.entry.Tie as tie
 
 add-p : tie.Need-overflow-add-p
-add-p c = let narrow = stated-narrow c.before.before.requires.0 in omega arith
+add-p c = let narrow = stated_narrow c.before.before.requires.0 in omega arith
 
 mul-p : tie.Need-overflow-mul-p
 mul-p c =

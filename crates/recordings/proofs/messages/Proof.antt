@@ -4,7 +4,7 @@ use mathlib.Core.Path.{sym, ap, ◌∙◌}
 use borrow.Author.Rules.{rules}
 use Rattle.sim0mq.specs.Views.{judged}
 use Rattle.recordings.proofs.StatedLaws.{entry-lies}
-use Rattle.recordings.proofs.OpenCases.{Judging, judging-start, judging-refused, judging-turn, judging-end}
+use Rattle.recordings.proofs.OpenCases.{Judging, judging_start, judging-refused, judging-turn, judging-end}
 use Rattle.recordings.proofs.messages.Statement.{statement}
 use Rattle.recordings.proofs.messages.Tie as tie
 
@@ -15,7 +15,7 @@ abbrev decreases-loop : tie.decreases-loop
 decreases-loop s t k₀ k = t.entries - k
 
 loop-holds : tie.Need-loop-init invariant-loop decreases-loop
-loop-holds c = judging-start c.before.requires
+loop-holds c = judging_start c.before.requires
 
 entry-requires : tie.Need-entry-requires invariant-loop decreases-loop
 entry-requires c κs = (c.before.before.before.before.requires, c.if1.true)

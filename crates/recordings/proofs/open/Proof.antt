@@ -1,7 +1,7 @@
 -- Trailer and index are judged, and then the messages.
 use mathlib.Core.Path.{◌∙◌}
 use Rattle.recordings.proofs.StatedLaws.{index_stated}
-use Rattle.recordings.proofs.OpenCases.{open-wrong}
+use Rattle.recordings.proofs.OpenCases.{open_wrong}
 use borrow.Author.Rules.{rules}
 use Rattle.recordings.proofs.open.Statement.{statement}
 use Rattle.recordings.proofs.open.Tie as tie
@@ -22,7 +22,7 @@ messages-requires : tie.Need-messages-requires
 messages-requires c κs = index_stated _ c.before.before.before.index.ensures c.before.t.given.1
 
 returns : tie.Need-returns
-returns c = c.refuse.ensures ∙ open-wrong _ c.before.before.before.index.ensures c.before.enum_told.given.1
+returns c = c.refuse.ensures ∙ open_wrong _ c.before.before.before.index.ensures c.before.enum_told.given.1
 
 returns-2 : tie.Need-returns-2
 returns-2 c = search rules

@@ -5,8 +5,8 @@ use native.Mathlib.Omega.{arith}
 use Rattle.sim0mq.specs.Views.{judged}
 use Rattle.recordings_format.specs.Edition.{most_messages}
 use Rattle.recordings_format.specs.Judge.{place_size}
-use Rattle.recordings.proofs.StatedLaws.{index_stated, stated-few}
-use Rattle.recordings.proofs.OpenCases.{into-wrong, into-wrong-kept, into-short, into-short-kept, into-alike, into-kept, into-stored}
+use Rattle.recordings.proofs.StatedLaws.{index_stated, stated_few}
+use Rattle.recordings.proofs.OpenCases.{into_wrong, into_wrong_kept, into-short, into-short-kept, into-alike, into-kept, into-stored}
 use borrow.Author.Rules.{rules}
 use Rattle.recordings.proofs.open_into.Statement.{statement}
 use Rattle.recordings.proofs.open_into.Tie as tie
@@ -27,7 +27,7 @@ mul-if1 : tie.Need-overflow-mul-if1
 unfolding most_messages
 mul-if1 c =
     let found = c.before.before in
-    let few = stated-few (index_stated _ found.before.before.index.ensures found.t.given.1) in
+    let few = stated_few (index_stated _ found.before.before.index.ensures found.t.given.1) in
     omega arith
 
 refuse-requires-2 : tie.Need-refuse-requires-2
@@ -63,7 +63,7 @@ returns-2 : tie.Need-returns-2
 returns-2 c =
     let wrong = c.before.before.before.index.ensures in
     let told = c.before.enum_told.given.1 in
-    (c.refuse.ensures ∙ into-wrong _ wrong told _, into-wrong-kept _ wrong told _ _)
+    (c.refuse.ensures ∙ into_wrong _ wrong told _, into_wrong_kept _ wrong told _ _)
 
 returns-3 : tie.Need-returns-3
 unfolding place_size

@@ -1,7 +1,7 @@
 -- At each turn the numbers of the messages so far stand at the front of the table.
 use Prim.Native.Nat.{◌-◌}
 use borrow.Author.Rules.{rules}
-use Rattle.recordings.proofs.StoreCases.{Storing, storing_start, storing-room, storing-turn, storing-end}
+use Rattle.recordings.proofs.StoreCases.{Storing, storing_start, storing_room, storing_turn, storing_end}
 use Rattle.recordings.proofs.store.Statement.{statement}
 use Rattle.recordings.proofs.store.Tie as tie
 
@@ -21,7 +21,7 @@ put-place-requires : tie.Need-put-place-requires invariant-loop decreases-loop
 put-place-requires c κs =
     let asked = c.before.before.before.before.before.before.before.requires in
     let entry = c.before.entry.ensures in
-    storing-room asked c.before.before.before.before.loop.invariant c.before.before.if1.true entry.1
+    storing_room asked c.before.before.before.before.loop.invariant c.before.before.if1.true entry.1
 
 add-k : tie.Need-overflow-add-k invariant-loop decreases-loop
 add-k c = search rules
@@ -34,13 +34,13 @@ loop-again c =
     let turn = c.before.before.before.before.before in
     let asked = turn.before.before.before.before.before.requires in
     let entry = c.before.before.before.before.entry.ensures.0 in
-    storing-turn asked turn.before.before.loop.invariant turn.if1.true entry c.before.before.put_place.ensures
+    storing_turn asked turn.before.before.loop.invariant turn.if1.true entry c.before.before.put_place.ensures
 
 same_length : tie.Need-same-length invariant-loop decreases-loop
 same_length c = c.before.before.loop.invariant.long
 
 returns : tie.Need-returns invariant-loop decreases-loop
-returns c = storing-end c.before.before.before.before.before.requires c.before.before.loop.invariant c.if1.false
+returns c = storing_end c.before.before.before.before.before.requires c.before.before.loop.invariant c.if1.false
 
 pub store_spec : {M : Type 1} → statement M
 store_spec =

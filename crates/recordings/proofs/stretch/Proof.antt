@@ -2,7 +2,7 @@
 use mathlib.Core.Path.{sym, ap, ◌∙◌}
 use native.Mathlib.Omega.{arith}
 use Rattle.reading.specs.declared.Answer.{Answer}
-use Rattle.recordings.proofs.StretchCases.{stretch-over, stretch-accepted, stretch-place, stretch-refused}
+use Rattle.recordings.proofs.StretchCases.{stretch_over, stretch-accepted, stretch-place, stretch-refused}
 use borrow.Author.Rules.{rules}
 use Rattle.recordings.proofs.stretch.Statement.{statement}
 use Rattle.recordings.proofs.stretch.Tie as tie
@@ -11,7 +11,7 @@ refuse-requires : tie.Need-refuse-requires
 refuse-requires c κs = search rules
 
 returns : tie.Need-returns
-returns c = c.refuse.ensures ∙ stretch-over _ _ _ _ c.before.before.before.requires c.before.if1.true
+returns c = c.refuse.ensures ∙ stretch_over _ _ _ _ c.before.before.before.requires c.before.if1.true
 
 add-end : tie.Need-overflow-add-end
 add-end c = search rules

@@ -2,7 +2,7 @@
 use Prim.Native.Nat.{◌-◌}
 use mathlib.Core.Path.{refl}
 use native.Mathlib.Omega.{arith}
-use Rattle.recordings_blanking.proofs.BlankCases.{Copying, copying_start, copying-lies, copying-turn, copying-end}
+use Rattle.recordings_blanking.proofs.BlankCases.{Copying, copying_start, copying-lies, copying-turn, copying_end}
 use borrow.Author.Rules.{rules}
 use Rattle.recordings_blanking.proofs.blank_each.Statement.{statement}
 use Rattle.recordings_blanking.proofs.blank_each.Tie as tie
@@ -76,7 +76,7 @@ same_length c = search rules
 returns : tie.Need-returns invariant-loop decreases-loop
 returns c =
     let start = c.before.before.before.before.before in
-    copying-end start.requires c.before.before.loop.invariant c.if1.false
+    copying_end start.requires c.before.before.loop.invariant c.if1.false
 
 pub blank-each-spec : {M : Type 1} → statement M
 blank-each-spec =

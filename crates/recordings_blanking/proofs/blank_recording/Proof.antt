@@ -1,8 +1,8 @@
 -- Trailer and index are judged, and then the copy is made.
 use mathlib.Core.Path.{◌∙◌}
 use Rattle.recordings.proofs.StatedLaws.{index_stated}
-use Rattle.recordings.proofs.OpenCases.{open-wrong}
-use Rattle.recordings_blanking.proofs.BlankCases.{copied-refused}
+use Rattle.recordings.proofs.OpenCases.{open_wrong}
+use Rattle.recordings_blanking.proofs.BlankCases.{copied_refused}
 use borrow.Author.Rules.{rules}
 use Rattle.recordings_blanking.proofs.blank_recording.Statement.{statement}
 use Rattle.recordings_blanking.proofs.blank_recording.Tie as tie
@@ -25,8 +25,8 @@ copied-requires c κs =
 
 returns : tie.Need-returns
 returns c =
-    let wrong = open-wrong _ c.before.before.before.index.ensures c.before.enum_told.given.1 in
-    let kept = copied-refused _ _ _ _ wrong in
+    let wrong = open_wrong _ c.before.before.before.index.ensures c.before.enum_told.given.1 in
+    let kept = copied_refused _ _ _ _ wrong in
     (c.refuse.ensures ∙ kept.0, kept.1)
 
 same_length : tie.Need-same-length

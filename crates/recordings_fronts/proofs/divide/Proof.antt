@@ -4,7 +4,7 @@ use Prim.Native.Nat.{◌-◌}
 use native.Mathlib.Omega.{arith}
 use lib.ListN.{length}
 use Rattle.sim0mq.specs.Message.{limit}
-use Rattle.recordings_fronts.proofs.DivideCases.{Divides, divides_start, stops-at-end, stops-at-most, taken-within, taken-turn, fault-within, stops-at-fault}
+use Rattle.recordings_fronts.proofs.DivideCases.{Divides, divides_start, stops_at_end, stops-at-most, taken-within, taken-turn, fault-within, stops-at-fault}
 use borrow.Author.Rules.{rules}
 use Rattle.recordings_fronts.proofs.divide.Statement.{statement}
 use Rattle.recordings_fronts.proofs.divide.Tie as tie
@@ -22,7 +22,7 @@ same_length : tie.Need-same-length invariant-loop decreases-loop
 same_length c = c.before.loop.invariant.long
 
 returns : tie.Need-returns invariant-loop decreases-loop
-returns c = stops-at-end c.before.loop.invariant (omega arith)
+returns c = stops_at_end c.before.loop.invariant (omega arith)
 
 same-length-2 : tie.Need-same-length-2 invariant-loop decreases-loop
 same-length-2 c = c.before.before.loop.invariant.long

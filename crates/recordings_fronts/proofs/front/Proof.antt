@@ -1,5 +1,5 @@
 -- What reading says of the bytes is what it says of their front.
-use Rattle.recordings_fronts.proofs.FrontCases.{front-accepted, front_more, front-none}
+use Rattle.recordings_fronts.proofs.FrontCases.{front_accepted, front_more, front_none}
 use borrow.Author.Rules.{rules}
 use Rattle.recordings_fronts.proofs.front.Statement.{statement}
 use Rattle.recordings_fronts.proofs.front.Tie as tie
@@ -19,12 +19,12 @@ returns c =
     front_more _ _ told _ c.before.before.before.said2.given.1 c.if1.true
 
 returns-2 : tie.Need-returns-2
-returns-2 c = front-accepted _ _ c.before.before.before.judge.ensures _ c.before.said.given.1
+returns-2 c = front_accepted _ _ c.before.before.before.judge.ensures _ c.before.said.given.1
 
 returns-3 : tie.Need-returns-3
 returns-3 c =
     let told = c.before.before.before.before.before.judge.ensures in
-    front-none _ _ told _ c.before.before.before.said2.given.1 c.if1.false
+    front_none _ _ told _ c.before.before.before.said2.given.1 c.if1.false
 
 pub front-spec : {M : Type 1} → statement M
 front-spec =

@@ -2,14 +2,14 @@
 use mathlib.Core.Path.{sym, ◌∙◌}
 use borrow.Author.Tests.{not-true, not-false}
 use Rattle.recordings_format.specs.Edition.{trailer_size}
-use Rattle.recordings_index.proofs.IndexCases.{tail-short, tail-over, tail-few, tail-wrong, found-place, tail-wanted, found-trailing, tail-untiled, tail-tiled}
+use Rattle.recordings_index.proofs.IndexCases.{tail_short, tail-over, tail-few, tail-wrong, found-place, tail-wanted, found-trailing, tail-untiled, tail-tiled}
 use borrow.Author.Rules.{rules}
 use Rattle.recordings_index.proofs.index_tail.Statement.{statement}
 use Rattle.recordings_index.proofs.index_tail.Tie as tie
 
 returns : tie.Need-returns
 unfolding trailer_size
-returns c = tail-short _ _ c.if1.true
+returns c = tail_short _ _ c.if1.true
 
 returns-2 : tie.Need-returns-2
 unfolding trailer_size

@@ -2,7 +2,7 @@
 use Prim.Native.Nat.{◌-◌}
 use native.Mathlib.Omega.{arith}
 use borrow.Author.Rules.{rules}
-use Rattle.recordings_index.proofs.TileCases.{Tiling, tiling_start, tiling-sum, tiling-room, tiling-wrong, tiling-turn, tiling-end}
+use Rattle.recordings_index.proofs.TileCases.{Tiling, tiling_start, tiling-sum, tiling-room, tiling-wrong, tiling-turn, tiling_end}
 use Rattle.recordings_index.proofs.tiles.Statement.{statement}
 use Rattle.recordings_index.proofs.tiles.Tie as tie
 
@@ -67,7 +67,7 @@ loop-again c =
     c.before.if1.false size.0 size.1
 
 returns-2 : tie.Need-returns-2 invariant-loop decreases-loop
-returns-2 c = tiling-end c.before.before.before.requires c.before.loop.invariant c.loop-test.false
+returns-2 c = tiling_end c.before.before.before.requires c.before.loop.invariant c.loop-test.false
 
 pub tiles-spec : {M : Type 1} → statement M
 tiles-spec =

@@ -1,5 +1,5 @@
 -- Trailer and index are judged by the last bytes, then whether there is such a message, then its length.
-use Rattle.recordings_reaching.proofs.ReachLaws.{stated_in, in-none, in-over, in-there, in-wrong, in-wanted}
+use Rattle.recordings_reaching.proofs.ReachLaws.{stated_in, in-none, in-over, in-there, in_wrong, in_wanted}
 use borrow.Author.Rules.{rules}
 use Rattle.recordings_reaching.proofs.ask_tail.Statement.{statement}
 use Rattle.recordings_reaching.proofs.ask_tail.Tie as tie
@@ -34,10 +34,10 @@ returns-2 c =
     c.if2.true
 
 returns-3 : tie.Need-returns-3
-returns-3 c = in-wrong _ _ _ c.before.before.index-tail.ensures c.enum_told.given.1
+returns-3 c = in_wrong _ _ _ c.before.before.index-tail.ensures c.enum_told.given.1
 
 returns-4 : tie.Need-returns-4
-returns-4 c = in-wanted _ _ _ c.before.before.before.index-tail.ensures c.before.w.given.1
+returns-4 c = in_wanted _ _ _ c.before.before.before.index-tail.ensures c.before.w.given.1
 
 returns-5 : tie.Need-returns-5
 returns-5 c =

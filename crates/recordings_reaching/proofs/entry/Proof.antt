@@ -1,6 +1,6 @@
 -- Entry k stands in the last bytes, and states the start and the length of message k in the file.
 use native.Mathlib.Omega.{arith}
-use Rattle.recordings_reaching.proofs.ReachLaws.{in-narrow, in_place, in_reach, in-room, in_is}
+use Rattle.recordings_reaching.proofs.ReachLaws.{in_narrow, in_place, in_reach, in-room, in_is}
 use borrow.Author.Rules.{rules}
 use Rattle.recordings_reaching.proofs.entry.Statement.{statement}
 use Rattle.recordings_reaching.proofs.entry.Tie as tie
@@ -12,7 +12,7 @@ sub-from-2 : tie.Need-overflow-sub-from-2
 sub-from-2 c = in_reach c.before.before.before.requires.0
 
 add-p : tie.Need-overflow-add-p
-add-p c = let narrow = in-narrow c.before.before.before.requires.0 in omega arith
+add-p c = let narrow = in_narrow c.before.before.before.requires.0 in omega arith
 
 mul-p : tie.Need-overflow-mul-p
 mul-p c =

@@ -1,7 +1,7 @@
 -- The tail is put where there is room for it after the messages, and then the messages before it.
 use mathlib.Core.Path.{sym}
 use lib.Seq.{length-take-le}
-use Rattle.recordings_salvaging.proofs.SaveCases.{save-there, save-within, save-refused, save-saved}
+use Rattle.recordings_salvaging.proofs.SaveCases.{save_there, save_within, save-refused, save-saved}
 use borrow.Author.Rules.{rules}
 use Rattle.recordings_salvaging.proofs.save.Statement.{statement}
 use Rattle.recordings_salvaging.proofs.save.Tie as tie
@@ -9,7 +9,7 @@ use Rattle.recordings_salvaging.proofs.save.Tie as tie
 slice-aggregate-put-tail : tie.Need-slice-aggregate-put-tail
 slice-aggregate-put-tail c =
     let start = c.before.before.before.before in
-    sym (length-take-le _ start.args.lengths.now (save-there start.requires))
+    sym (length-take-le _ start.args.lengths.now (save_there start.requires))
 
 put-tail-requires : tie.Need-put-tail-requires
 put-tail-requires c κs = search rules
@@ -24,7 +24,7 @@ slice-aggregate-put : tie.Need-slice-aggregate-put
 slice-aggregate-put c =
     let tail = c.before.before.before.before.before.before in
     let start = tail.before.before.before.before.before.before in
-    sym (length-take-le _ start.args.file.now (save-within start.requires))
+    sym (length-take-le _ start.args.file.now (save_within start.requires))
 
 put-requires : tie.Need-put-requires
 put-requires c κs = search rules
@@ -32,7 +32,7 @@ put-requires c κs = search rules
 sub-t22 : tie.Need-overflow-sub-t22
 sub-t22 c =
     let tail = c.before.before.before.before.before.before.before.before.before.before in
-    save-within tail.before.before.before.before.before.before.requires
+    save_within tail.before.before.before.before.before.before.requires
 
 same_length : tie.Need-same-length
 same_length c = search rules

@@ -4,7 +4,7 @@ use Prim.Native.Nat.{◌-◌}
 use native.Mathlib.Omega.{arith}
 use lib.ListN.{length}
 use Rattle.sim0mq.specs.Message.{limit}
-use Rattle.recordings_tails.proofs.TailLaws.{Counts, counts_start, counts_long, counts-over, counts-turn, counts_end}
+use Rattle.recordings_tails.proofs.TailLaws.{Counts, counts_start, counts_long, counts_over, counts_turn, counts_end}
 use borrow.Author.Rules.{rules}
 use Rattle.recordings_tails.proofs.come_to.Statement.{statement}
 use Rattle.recordings_tails.proofs.come_to.Tie as tie
@@ -37,7 +37,7 @@ returns-2 : tie.Need-returns-2 invariant-loop decreases-loop
 returns-2 c =
     let size = c.before.before.wide32.ensures.0 in
     let turn = c.before.before.before.before in
-    counts-over turn.before.loop.invariant turn.loop-test.true (omega arith)
+    counts_over turn.before.loop.invariant turn.loop-test.true (omega arith)
 
 add-k : tie.Need-overflow-add-k invariant-loop decreases-loop
 add-k c = search rules
@@ -50,7 +50,7 @@ unfolding limit
 loop-again c =
     let size = c.before.before.wide32.ensures.0 in
     let turn = c.before.before.before.before in
-    counts-turn turn.before.loop.invariant _ turn.loop-test.true size c.before.if1.false c.if2.false
+    counts_turn turn.before.loop.invariant _ turn.loop-test.true size c.before.if1.false c.if2.false
 
 returns-3 : tie.Need-returns-3 invariant-loop decreases-loop
 returns-3 c = counts_end c.before.loop.invariant c.loop-test.false

@@ -2,7 +2,7 @@
 use Prim.Native.Nat.{◌-◌}
 use native.Mathlib.Omega.{arith}
 use lib.ListN.{length}
-use Rattle.recordings_tails.proofs.TailLaws.{Puts, puts_start, puts-within, puts-turn, puts-end}
+use Rattle.recordings_tails.proofs.TailLaws.{Puts, puts_start, puts_within, puts_turn, puts_end}
 use borrow.Author.Rules.{rules}
 use Rattle.recordings_tails.proofs.put_index.Statement.{statement}
 use Rattle.recordings_tails.proofs.put_index.Tie as tie
@@ -31,7 +31,7 @@ put-entry-requires c κs = search rules
 add_start : tie.Need-overflow-add-start invariant-loop decreases-loop
 add_start c =
     let here = c.before.before.before.before.before.before in
-    let bound = puts-within here.before.before.before.before.requires here.before.loop.invariant here.loop-test.true in
+    let bound = puts_within here.before.before.before.before.requires here.before.loop.invariant here.loop-test.true in
     let size = c.before.before.before.before.wide32.ensures.0 in
     omega arith
 
@@ -49,13 +49,13 @@ loop-again c =
     let here = c.before.before.before.before.before.before in
     let pre = here.before.before.before.before.requires in
     let size = c.before.before.before.before.wide32.ensures.0 in
-    puts-turn pre here.before.loop.invariant _ _ here.loop-test.true size c.before.before.put-entry.ensures
+    puts_turn pre here.before.loop.invariant _ _ here.loop-test.true size c.before.before.put-entry.ensures
 
 same_length : tie.Need-same-length invariant-loop decreases-loop
 same_length c = search rules
 
 returns : tie.Need-returns invariant-loop decreases-loop
-returns c = puts-end c.before.before.before.before.requires c.before.loop.invariant c.loop-test.false
+returns c = puts_end c.before.before.before.before.requires c.before.loop.invariant c.loop-test.false
 
 pub put-index-spec : {M : Type 1} → statement M
 put-index-spec =

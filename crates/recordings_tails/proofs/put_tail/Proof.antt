@@ -4,7 +4,7 @@ use mathlib.Core.Path.{refl, sym, ◌∙◌}
 use native.Mathlib.Omega.{arith}
 use borrow.Author.Tests.{not-true, not-false}
 use Rattle.recordings_format.specs.Edition.{most_messages, trailer_size}
-use Rattle.recordings_tails.proofs.TailLaws.{come_ends, tailing-many, tailing-elsewhere, tailing-over, tail_refused, tail_written}
+use Rattle.recordings_tails.proofs.TailLaws.{come_ends, tailing_many, tailing-elsewhere, tailing-over, tail_refused, tail_written}
 use borrow.Author.Rules.{rules}
 use Rattle.recordings_tails.proofs.put_tail.Statement.{statement}
 use Rattle.recordings_tails.proofs.put_tail.Tie as tie
@@ -14,7 +14,7 @@ refuse-requires c κs = search rules
 
 returns : tie.Need-returns
 unfolding most_messages
-returns c = tail_refused _ _ _ _ _ _ (tailing-many _ c.before.before.before.before.args.lengths.now _ _ (omega arith)) c.refuse.ensures
+returns c = tail_refused _ _ _ _ _ _ (tailing_many _ c.before.before.before.before.args.lengths.now _ _ (omega arith)) c.refuse.ensures
 
 come-to-requires : tie.Need-come-to-requires
 come-to-requires c κs = search rules

@@ -5,7 +5,7 @@ use native.Mathlib.Omega.{arith}
 use lib.ListN.{length}
 use Rattle.sim0mq_buffers.proofs.PlaceLaws.{put_fits}
 use Rattle.recordings_format.specs.Edition.{most_messages}
-use Rattle.recordings_tails.proofs.TailLaws.{room-over, room_fits}
+use Rattle.recordings_tails.proofs.TailLaws.{room_over, room_fits}
 use Rattle.recordings_writing.proofs.StateLaws.{told_added, usable_true}
 use borrow.Author.Rules.{rules}
 use Rattle.recordings_writing.proofs.append.Statement.{statement}
@@ -21,7 +21,7 @@ returns : tie.Need-returns
 returns c =
     let a = c.before.before.before.before.args in
     let within = (usable_true _ _ c.before.before.before.before.requires.0).1 in
-    told_added _ _ _ _ _ _ (room-over a.w.written (length a.out.now) a.text.now (omega arith)) c.refused.ensures refl
+    told_added _ _ _ _ _ _ (room_over a.w.written (length a.out.now) a.text.now (omega arith)) c.refused.ensures refl
 
 put-requires : tie.Need-put-requires
 put-requires c κs = search rules

@@ -2,7 +2,7 @@
 use mathlib.Core.Path.{sym, ◌∙◌}
 use lib.ListN.{take}
 use lib.Seq.{length-take-le}
-use Rattle.recordings_writing.proofs.CloseCases.{finish-refused, finish-closed}
+use Rattle.recordings_writing.proofs.CloseCases.{finish_refused, finish_closed}
 use borrow.Author.Rules.{rules}
 use Rattle.recordings_writing.proofs.finish.Statement.{statement}
 use Rattle.recordings_writing.proofs.finish.Tie as tie
@@ -30,7 +30,7 @@ returns c =
     let a = c.before.before.before.before.before.before.before.before.before.before.before.args in
     let ns = take a.w.messages a.lengths.now in
     let put = c.before.before.before.before.before.before.put-tail in
-    let kept = finish-refused a.w ns a.out.now put.result put.ensures.0 _ c.before.before.r.given.1 in
+    let kept = finish_refused a.w ns a.out.now put.result put.ensures.0 _ c.before.before.r.given.1 in
     (c.refused.ensures ∙ kept, put.ensures.1)
 
 same-length-2 : tie.Need-same-length-2
@@ -41,7 +41,7 @@ returns-2 c =
     let a = c.before.before.before.before.before.before.before.before.before.before.args in
     let ns = take a.w.messages a.lengths.now in
     let put = c.before.before.before.before.before.put-tail in
-    let closed = finish-closed a.w ns a.out.now put.result put.ensures.0 _ c.before.written.given.1 in
+    let closed = finish_closed a.w ns a.out.now put.result put.ensures.0 _ c.before.written.given.1 in
     (closed, put.ensures.1)
 
 pub finish_spec : {M : Type 1} → statement M

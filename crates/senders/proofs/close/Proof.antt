@@ -4,14 +4,14 @@ use mathlib.Core.Path.{◌≡◌, ap, sym, ◌∙◌}
 use native.Mathlib.Omega.{arith}
 use lib.ListN.{length, length-map}
 use Rattle.senders_book.specs.Book.{book_places}
-use Rattle.senders_book.proofs.TakeCases.{close-long, close-held, close-none}
+use Rattle.senders_book.proofs.TakeCases.{close_long, close-held, close-none}
 use Rattle.senders.specs.Senders.{after_closing}
 use borrow.Author.Rules.{rules}
 use Rattle.senders.proofs.close.Statement.{statement}
 use Rattle.senders.proofs.close.Tie as tie
 
 returns : tie.Need-returns
-returns c = ap after_closing (close-long _ _ _ c.if1.true)
+returns c = ap after_closing (close_long _ _ _ c.if1.true)
 
 id-of-requires : tie.Need-id-of-requires
 id-of-requires c κs = search rules

@@ -8,7 +8,7 @@ use Rattle.sim0mq.specs.Views.{judged}
 use Rattle.sim0mq_numbers.specs.Numbers.{Below}
 use Rattle.senders_book.specs.Book.{book_places}
 use Rattle.senders_book.specs.Taking.{stamped}
-use Rattle.senders_book.proofs.TakeCases.{stamp-long, stamp-stops, stamp-goes}
+use Rattle.senders_book.proofs.TakeCases.{stamp_long, stamp-stops, stamp-goes}
 use Rattle.senders.specs.Senders.{after_taking}
 use Rattle.senders.proofs.CallCases.{settling_by, stands_in}
 use borrow.Author.Rules.{rules}
@@ -19,7 +19,7 @@ refused-requires : tie.Need-refused-requires
 refused-requires c κs = search rules
 
 returns : tie.Need-returns
-returns c = c.refused.ensures ∙ ap (after_taking c.before.before.before.args.book) (stamp-long _ _ c.before.if1.true)
+returns c = c.refused.ensures ∙ ap (after_taking c.before.before.before.args.book) (stamp_long _ _ c.before.if1.true)
 
 id-of-requires : tie.Need-id-of-requires
 id-of-requires c κs = search rules

@@ -7,7 +7,7 @@ use lib.ListN.{take, drop}
 use mir.Syntax.{w64}
 use mir.Val.{to_z, of_z}
 use Rattle.reading_fields.specs.Items.{fielded}
-use Rattle.senders_book.proofs.StampLaws.{outline-within}
+use Rattle.senders_book.proofs.StampLaws.{outline_within}
 use Rattle.senders_book.proofs.TakeCases.{at-sender, at-number, at-stamp}
 use Rattle.senders.specs.Senders.{after_taking}
 use Rattle.senders.proofs.CallCases.{place_shown}
@@ -48,7 +48,7 @@ enum-known-g c = search rules
 add-end : tie.Need-overflow-add-end
 add-end c =
     let f = c.before.before.before.before.before.before in
-    let within = outline-within _ _ _ (sym f.before.before.outline.ensures ∙ ap fielded f.f.given.1) in
+    let within = outline_within _ _ _ (sym f.before.before.outline.ensures ∙ ap fielded f.f.given.1) in
     omega arith
 
 number-requires : tie.Need-number-requires
@@ -66,7 +66,7 @@ part-enter-start c = search rules
 part-enter-end : tie.Need-slice-bounds-enter-end
 part-enter-end c =
     let f = c.before.before.before.before.before.before.before.before in
-    let within = outline-within _ _ _ (sym f.before.before.outline.ensures ∙ ap fielded f.f.given.1) in
+    let within = outline_within _ _ _ (sym f.before.before.outline.ensures ∙ ap fielded f.f.given.1) in
     omega arith
 
 enter-requires : tie.Need-enter-requires

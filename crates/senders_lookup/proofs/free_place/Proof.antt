@@ -1,6 +1,6 @@
 -- senders_lookup::free_place: the first free place is i and the first free one in what is left from place i on.
 use borrow.Author.Tests.{not-true, not-false}
-use Rattle.senders_book.proofs.PlaceLaws.{free-here, free_on, free-end}
+use Rattle.senders_book.proofs.PlaceLaws.{free_here, free_on, free_end}
 use borrow.Author.Rules.{rules}
 use Prim.Native.Nat.{◌+◌, ◌-◌, ◌≤◌, ◌<◌}
 use mathlib.Core.Path.{◌≡◌}
@@ -29,7 +29,7 @@ returns : tie.Need-returns invariant-loop decreases-loop
 returns c =
     let at = c.before.before.before.before in
     let h : at.loop.i < length at.before.args.t1 = omega arith in
-    omega (arith, free-here at.before.args.t1 at.loop.i h (not-true _ c.if1.true))
+    omega (arith, free_here at.before.args.t1 at.loop.i h (not-true _ c.if1.true))
 
 add-i : tie.Need-overflow-add-i invariant-loop decreases-loop
 add-i c = search rules
@@ -47,7 +47,7 @@ returns-2 : tie.Need-returns-2 invariant-loop decreases-loop
 returns-2 c =
     let at = c.before in
     let h : length at.before.args.t1 ≤ at.loop.i = omega arith in
-    omega (arith, free-end at.before.args.t1 at.loop.i h)
+    omega (arith, free_end at.before.args.t1 at.loop.i h)
 
 pub free-place-spec : {M : Type 1} → statement M
 free-place-spec =

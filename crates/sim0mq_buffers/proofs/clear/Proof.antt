@@ -9,7 +9,7 @@ use native.Mathlib.Numerals.{add-one}
 use lib.ListN.{length, take, drop, length-set, replicate, length-replicate, get_or-replicate}
 use lib.Seq.{paste, paste-zero, paste-suc, take_all}
 use Rattle.sim0mq.specs.Blank.{zeroed}
-use Rattle.sim0mq_buffers.proofs.PlaceLaws.{zeroed-byte, zeroed-eight, clear-fits, clear-over}
+use Rattle.sim0mq_buffers.proofs.PlaceLaws.{zeroed_byte, zeroed_eight, clear_fits, clear_over}
 use Rattle.sim0mq_buffers.proofs.clear.Statement.{statement}
 use Rattle.sim0mq_buffers.proofs.clear.Tie as tie
 
@@ -26,13 +26,13 @@ abbrev decreases-loop : tie.decreases-loop
 decreases-loop out₀ at n i₀ out i = n - i
 
 returns : tie.Need-returns invariant-loop decreases-loop
-returns c = clear-over _ _ _ (omega arith)
+returns c = clear_over _ _ _ (omega arith)
 
 sub-if2 : tie.Need-overflow-sub-if2 invariant-loop decreases-loop
 sub-if2 c = search rules
 
 returns-2 : tie.Need-returns-2 invariant-loop decreases-loop
-returns-2 c = clear-over _ _ _ (omega arith)
+returns-2 c = clear_over _ _ _ (omega arith)
 
 slice-write-out : tie.Need-slice-write-out invariant-loop decreases-loop
 slice-write-out c = search rules
@@ -44,7 +44,7 @@ returns-3 : tie.Need-returns-3 invariant-loop decreases-loop
 returns-3 c =
     let a = c.before.before.before.before.args in
     let room : a.at + a.n ≤ length a.out.now = omega arith in
-    zeroed-byte _ _ _ c.if3.true (omega arith) ∙ sym (clear-fits _ _ _ room)
+    zeroed_byte _ _ _ c.if3.true (omega arith) ∙ sym (clear_fits _ _ _ room)
 
 clear-eight-requires : tie.Need-clear-eight-requires invariant-loop decreases-loop
 clear-eight-requires c κs = search rules
@@ -56,7 +56,7 @@ returns-4 : tie.Need-returns-4 invariant-loop decreases-loop
 returns-4 c =
     let a = c.before.before.before.before.before.before.before.before.before.args in
     let room : a.at + a.n ≤ length a.out.now = omega arith in
-    c.before.before.clear-eight.ensures ∙ zeroed-eight _ _ _ c.before.before.before.before.if4.true (omega arith) ∙ sym (clear-fits _ _ _ room)
+    c.before.before.clear-eight.ensures ∙ zeroed_eight _ _ _ c.before.before.before.before.if4.true (omega arith) ∙ sym (clear_fits _ _ _ room)
 
 loop-holds : tie.Need-loop-init invariant-loop decreases-loop
 loop-holds c =
@@ -99,7 +99,7 @@ returns-5 c =
     let room : at + n ≤ length d = omega arith in
     c.before.loop.invariant.2
     ∙ rw (e, take_all n (zeros n) (omega (arith, long n))) (append_assoc (take at d) (zeros n) (drop (at + n) d))
-    ∙ sym (clear-fits d at n room)
+    ∙ sym (clear_fits d at n room)
 
 pub clear_spec : {M : Type 1} → statement M
 clear_spec =

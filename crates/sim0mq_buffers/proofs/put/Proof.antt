@@ -5,18 +5,18 @@ use native.Mathlib.Omega.{arith}
 use Prim.Native.Nat.{◌+◌, ◌≤◌}
 use mathlib.Core.Path.{sym, ◌∙◌}
 use lib.ListN.{length}
-use Rattle.sim0mq_buffers.proofs.PlaceLaws.{placed-single, placed-part, put_fits, put-over}
+use Rattle.sim0mq_buffers.proofs.PlaceLaws.{placed_single, placed_part, put_fits, put_over}
 use Rattle.sim0mq_buffers.proofs.put.Statement.{statement}
 use Rattle.sim0mq_buffers.proofs.put.Tie as tie
 
 returns : tie.Need-returns
-returns c = put-over _ _ _ (omega arith)
+returns c = put_over _ _ _ (omega arith)
 
 sub-if2 : tie.Need-overflow-sub-if2
 sub-if2 c = search rules
 
 returns-2 : tie.Need-returns-2
-returns-2 c = put-over _ _ _ (omega arith)
+returns-2 c = put_over _ _ _ (omega arith)
 
 shared-slice-read-out : tie.Need-shared-slice-read-out
 shared-slice-read-out c = search rules
@@ -31,7 +31,7 @@ returns-3 : tie.Need-returns-3
 returns-3 c =
     let a = c.before.before.before.before.before.before.args in
     let room : a.at + length a.text.now ≤ length a.out.now = omega arith in
-    placed-single _ _ _ c.before.if3.true (omega arith) ∙ sym (put_fits _ _ _ room)
+    placed_single _ _ _ c.before.if3.true (omega arith) ∙ sym (put_fits _ _ _ room)
 
 sub-copy : tie.Need-overflow-sub-copy
 sub-copy c = search rules
@@ -52,7 +52,7 @@ returns-4 : tie.Need-returns-4
 returns-4 c =
     let a = c.before.before.before.before.before.before.before.before.before.args in
     let room : a.at + length a.text.now ≤ length a.out.now = omega arith in
-    placed-part _ _ _ _ room c.before.before.copy.ensures.1 ∙ sym (put_fits _ _ _ room)
+    placed_part _ _ _ _ room c.before.before.copy.ensures.1 ∙ sym (put_fits _ _ _ room)
 
 pub put_spec : {M : Type 1} → statement M
 put_spec =

@@ -2,7 +2,7 @@
 use native.Mathlib.Omega.{arith}
 use borrow.Author.Rules.{rules}
 use mathlib.Core.Path.{sym, ◌∙◌}
-use Rattle.sim0mq_marks.proofs.MarkCases.{currency-told, currency-short, currency-over, currency-fine}
+use Rattle.sim0mq_marks.proofs.MarkCases.{currency_told, currency_short, currency_over, currency_fine}
 use Rattle.sim0mq_marks.proofs.currency.Statement.{statement}
 use Rattle.sim0mq_marks.proofs.currency.Tie as tie
 
@@ -13,7 +13,7 @@ refuse-requires : tie.Need-refuse-requires
 refuse-requires c κs = search rules
 
 returns : tie.Need-returns
-returns c = c.refuse.ensures ∙ sym (currency-short _ _ (omega arith))
+returns c = c.refuse.ensures ∙ sym (currency_short _ _ (omega arith))
 
 number-requires : tie.Need-number-requires
 number-requires c κs = search rules
@@ -27,8 +27,8 @@ add-t8 c = search rules
 returns-2 : tie.Need-returns-2
 returns-2 c =
     sym
-    (currency-fine _ _ (omega arith)
-    (currency-told _ _ _ _ _ (omega arith) c.before.before.number.ensures.0 c.before.currency-taken.ensures c.if2.true))
+    (currency_fine _ _ (omega arith)
+    (currency_told _ _ _ _ _ (omega arith) c.before.before.number.ensures.0 c.before.currency-taken.ensures c.if2.true))
 
 refuse-requires-2 : tie.Need-refuse-requires-2
 refuse-requires-2 c κs = search rules
@@ -37,8 +37,8 @@ returns-3 : tie.Need-returns-3
 returns-3 c =
     c.refuse2.ensures
     ∙ sym
-    (currency-over _ _ (omega arith)
-    (currency-told _ _ _ _ _ (omega arith) c.before.before.before.number.ensures.0 c.before.before.currency-taken.ensures c.before.if2.false))
+    (currency_over _ _ (omega arith)
+    (currency_told _ _ _ _ _ (omega arith) c.before.before.before.number.ensures.0 c.before.before.currency-taken.ensures c.before.if2.false))
 
 pub currency-spec : {M : Type 1} → statement M
 currency-spec =

@@ -2,7 +2,7 @@
 use native.Mathlib.Omega.{arith}
 use borrow.Author.Rules.{rules}
 use mathlib.Core.Path.{sym, ◌∙◌}
-use Rattle.sim0mq_marks.proofs.MarkCases.{mark-short}
+use Rattle.sim0mq_marks.proofs.MarkCases.{mark_short}
 use Rattle.sim0mq_marks.proofs.mark_by.Statement.{statement}
 use Rattle.sim0mq_marks.proofs.mark_by.Tie as tie
 
@@ -10,7 +10,7 @@ refuse-requires : tie.Need-refuse-requires
 refuse-requires c κs = search rules
 
 returns : tie.Need-returns
-returns c = c.refuse.ensures ∙ sym (mark-short _ _ _ (omega arith))
+returns c = c.refuse.ensures ∙ sym (mark_short _ _ _ (omega arith))
 
 sub-if2 : tie.Need-overflow-sub-if2
 sub-if2 c = search rules

@@ -4,8 +4,8 @@ use native.Mathlib.Omega.{arith}
 use borrow.Author.Rules.{rules}
 use borrow.Author.Tests.{not-true, not-false, le-leb, lt-leb}
 use mathlib.Core.Path.{sym, ◌∙◌, subst}
-use Rattle.sim0mq_marks.proofs.MarkCases.{currency-told, per_known, mark-between, mark-above}
-use Rattle.sim0mq_marks.proofs.MarkCases.{roomy-plain, roomy-plain-over, roomy-currency-over, roomy-money, roomy-per, roomy-per-over}
+use Rattle.sim0mq_marks.proofs.MarkCases.{currency_told, per_known, mark_between, mark_above}
+use Rattle.sim0mq_marks.proofs.MarkCases.{roomy_plain, roomy_plain_over, roomy_currency_over, roomy_money, roomy_per, roomy_per_over}
 use Rattle.sim0mq_marks.proofs.roomy.Statement.{statement}
 use Rattle.sim0mq_marks.proofs.roomy.Tie as tie
 
@@ -30,7 +30,7 @@ add-t16 c = search rules
 returns : tie.Need-returns
 returns c =
     let unit = c.before.before.before.before.wide.ensures.0 in
-    sym (roomy-plain _ _ _ _ (omega arith) unit (omega arith) (le-leb _ _ c.if2.true))
+    sym (roomy_plain _ _ _ _ (omega arith) unit (omega arith) (le-leb _ _ c.if2.true))
 
 add-refuse : tie.Need-overflow-add-refuse
 add-refuse c = search rules
@@ -41,7 +41,7 @@ refuse-requires c κs = search rules
 returns-2 : tie.Need-returns-2
 returns-2 c =
     let unit = c.before.before.before.before.before.wide.ensures.0 in
-    c.refuse.ensures ∙ sym (roomy-plain-over _ _ _ _ (omega arith) unit (omega arith) (lt-leb _ _ c.before.if2.false))
+    c.refuse.ensures ∙ sym (roomy_plain_over _ _ _ _ (omega arith) unit (omega arith) (lt-leb _ _ c.before.if2.false))
 
 refuse-requires-2 : tie.Need-refuse-requires-2
 refuse-requires-2 c κs = search rules
@@ -49,7 +49,7 @@ refuse-requires-2 c κs = search rules
 returns-3 : tie.Need-returns-3
 returns-3 c =
     let unit = c.before.before.before.wide in
-    c.refuse2.ensures ∙ sym (mark-between _ _ _ unit.result (omega arith) unit.ensures.0 (omega arith) (omega arith))
+    c.refuse2.ensures ∙ sym (mark_between _ _ _ unit.result (omega arith) unit.ensures.0 (omega arith) (omega arith))
 
 refuse-requires-3 : tie.Need-refuse-requires-3
 refuse-requires-3 c κs = search rules
@@ -57,7 +57,7 @@ refuse-requires-3 c κs = search rules
 returns-4 : tie.Need-returns-4
 returns-4 c =
     let unit = c.before.before.before.before.wide in
-    c.refuse3.ensures ∙ sym (mark-above _ _ _ unit.result (omega arith) unit.ensures.0 (omega arith))
+    c.refuse3.ensures ∙ sym (mark_above _ _ _ unit.result (omega arith) unit.ensures.0 (omega arith))
 
 add-number : tie.Need-overflow-add-number
 add-number c = search rules
@@ -79,9 +79,9 @@ returns-5 c =
     let unit = c.before.before.before.before.before.before.before.wide in
     let code = c.before.before.before.number.ensures.0 in
     let judged = c.before.before.currency-taken.ensures in
-    let unlisted = currency-told _ _ _ _ _ (omega arith) code judged (not-true _ c.before.if5.true) in
+    let unlisted = currency_told _ _ _ _ _ (omega arith) code judged (not-true _ c.before.if5.true) in
     c.refuse4.ensures
-    ∙ sym (roomy-currency-over _ _ _ unit.result (omega arith) unit.ensures.0 (omega arith) (omega arith) unlisted)
+    ∙ sym (roomy_currency_over _ _ _ unit.result (omega arith) unit.ensures.0 (omega arith) (omega arith) unlisted)
 
 add-t21 : tie.Need-overflow-add-t21
 add-t21 c = search rules
@@ -91,8 +91,8 @@ returns-6 c =
     let unit = c.before.before.before.before.before.before.before.wide in
     let code = c.before.before.before.number.ensures.0 in
     let judged = c.before.before.currency-taken.ensures in
-    let listed = currency-told _ _ _ _ _ (omega arith) code judged (not-false _ c.before.if5.false) in
-    sym (roomy-money _ _ _ unit.result (omega arith) unit.ensures.0 c.if6.true listed)
+    let listed = currency_told _ _ _ _ _ (omega arith) code judged (not-false _ c.before.if5.false) in
+    sym (roomy_money _ _ _ unit.result (omega arith) unit.ensures.0 c.if6.true listed)
 
 sub-per : tie.Need-overflow-sub-per
 sub-per c = search rules
@@ -120,9 +120,9 @@ returns-7 c =
     let per = c.before.before.before.per.ensures in
     let code = c.before.before.before.before.before.before.before.number.ensures.0 in
     let judged = c.before.before.before.before.before.before.currency-taken.ensures in
-    let listed = currency-told _ _ _ _ _ (omega arith) code judged (not-false _ c.before.before.before.before.before.if5.false) in
+    let listed = currency_told _ _ _ _ _ (omega arith) code judged (not-false _ c.before.before.before.before.before.if5.false) in
     let shown = le-leb _ _ c.if7.true in
-    sym (roomy-per _ _ _ unit.result (omega arith) unit.ensures.0 _ (omega arith) (omega arith) per listed shown)
+    sym (roomy_per _ _ _ unit.result (omega arith) unit.ensures.0 _ (omega arith) (omega arith) per listed shown)
 
 add-refuse-3 : tie.Need-overflow-add-refuse-3
 add-refuse-3 c = search rules
@@ -136,10 +136,10 @@ returns-8 c =
     let per = c.before.before.before.before.per.ensures in
     let code = c.before.before.before.before.before.before.before.before.number.ensures.0 in
     let judged = c.before.before.before.before.before.before.before.currency-taken.ensures in
-    let listed = currency-told _ _ _ _ _ (omega arith) code judged (not-false _ c.before.before.before.before.before.before.if5.false) in
+    let listed = currency_told _ _ _ _ _ (omega arith) code judged (not-false _ c.before.before.before.before.before.before.if5.false) in
     let over = lt-leb _ _ c.before.if7.false in
     c.refuse5.ensures
-    ∙ sym (roomy-per-over _ _ _ unit.result (omega arith) unit.ensures.0 _ (omega arith) (omega arith) per listed over)
+    ∙ sym (roomy_per_over _ _ _ unit.result (omega arith) unit.ensures.0 _ (omega arith) (omega arith) per listed over)
 
 pub roomy-spec : {M : Type 1} → statement M
 roomy-spec =

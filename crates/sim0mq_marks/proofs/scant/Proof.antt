@@ -4,7 +4,7 @@ use Prim.Native.Nat.{ℕ, ◌-◌, ◌<◌}
 use native.Mathlib.Omega.{arith}
 use mathlib.Core.Path.{sym, ap, ◌∙◌, subst}
 use Rattle.sim0mq.specs.Views.{judged}
-use Rattle.sim0mq_marks.proofs.MarkCases.{per_known, mark-plain, mark-between, mark-above, mark-money, mark-per-fine, mark-per-stop}
+use Rattle.sim0mq_marks.proofs.MarkCases.{per_known, mark_plain, mark_between, mark_above, mark_money, mark_per_fine, mark_per_stop}
 use Rattle.sim0mq_marks.proofs.scant.Statement.{statement}
 use Rattle.sim0mq_marks.proofs.scant.Tie as tie
 
@@ -21,7 +21,7 @@ display-requires : tie.Need-display-requires
 display-requires c κs = search rules
 
 returns : tie.Need-returns
-returns c = c.display.ensures ∙ sym (mark-plain _ _ _ _ (omega arith) c.before.before.wide.ensures.0 (omega arith))
+returns c = c.display.ensures ∙ sym (mark_plain _ _ _ _ (omega arith) c.before.before.wide.ensures.0 (omega arith))
 
 refuse-requires : tie.Need-refuse-requires
 refuse-requires c κs = search rules
@@ -29,7 +29,7 @@ refuse-requires c κs = search rules
 returns-2 : tie.Need-returns-2
 returns-2 c =
     let unit = c.before.before.before.wide in
-    c.refuse.ensures ∙ sym (mark-between _ _ _ unit.result (omega arith) unit.ensures.0 (omega arith) (omega arith))
+    c.refuse.ensures ∙ sym (mark_between _ _ _ unit.result (omega arith) unit.ensures.0 (omega arith) (omega arith))
 
 add-currency : tie.Need-overflow-add-currency
 add-currency c = search rules
@@ -40,7 +40,7 @@ currency-requires c κs = search rules
 returns-3 : tie.Need-returns-3
 returns-3 c =
     let unit = c.before.before.before.before.wide in
-    c.currency.ensures ∙ sym (mark-money _ _ _ unit.result (omega arith) unit.ensures.0 c.before.if3.true)
+    c.currency.ensures ∙ sym (mark_money _ _ _ unit.result (omega arith) unit.ensures.0 c.before.if3.true)
 
 refuse-requires-2 : tie.Need-refuse-requires-2
 refuse-requires-2 c κs = search rules
@@ -48,7 +48,7 @@ refuse-requires-2 c κs = search rules
 returns-4 : tie.Need-returns-4
 returns-4 c =
     let unit = c.before.before.before.before.before.wide in
-    c.refuse2.ensures ∙ sym (mark-above _ _ _ unit.result (omega arith) unit.ensures.0 (omega arith))
+    c.refuse2.ensures ∙ sym (mark_above _ _ _ unit.result (omega arith) unit.ensures.0 (omega arith))
 
 add-currency-2 : tie.Need-overflow-add-currency-2
 add-currency-2 c = search rules
@@ -79,13 +79,13 @@ returns-5 c =
     let per = c.before.per.ensures in
     let taken = sym c.before.before.before.before.before.currency2.ensures ∙ ap judged c.before.before.before.p.given.1 in
     c.display2.ensures
-    ∙ sym (mark-per-fine _ _ _ unit.result (omega arith) unit.ensures.0 _ _ (omega arith) (omega arith) per taken)
+    ∙ sym (mark_per_fine _ _ _ unit.result (omega arith) unit.ensures.0 _ _ (omega arith) (omega arith) per taken)
 
 returns-6 : tie.Need-returns-6
 returns-6 c =
     let unit = c.before.before.before.before.before.before.before.before.wide in
     let stopped = sym c.before.before.before.currency2.ensures ∙ ap judged c.before.r.given.1 in
-    sym (mark-per-stop _ _ _ unit.result (omega arith) unit.ensures.0 _ _ (omega arith) (omega arith) stopped)
+    sym (mark_per_stop _ _ _ unit.result (omega arith) unit.ensures.0 _ _ (omega arith) (omega arith) stopped)
 
 pub scant-spec : {M : Type 1} → statement M
 scant-spec =

@@ -7,7 +7,7 @@ use native.Mathlib.Omega.{arith}
 use lib.IntN.{negsuc}
 use mir.Syntax.{w8}
 use mir.ValLaws.{to_z_pos}
-use Rattle.sim0mq_signed.proofs.Signed.{flip-fits, flip-back, twos_low, twos_high}
+use Rattle.sim0mq_signed.proofs.Signed.{flip_fits, flip_back, twos_low, twos_high}
 use Rattle.sim0mq_signed.proofs.i8_of.Statement.{statement}
 use Rattle.sim0mq_signed.proofs.i8_of.Tie as tie
 
@@ -21,13 +21,13 @@ cast-z : tie.Need-overflow-cast-z
 cast-z c = search rules
 
 sub-result : tie.Need-overflow-sub-result
-sub-result c = flip-fits w8 (255 - c.before.args.x) (omega arith)
+sub-result c = flip_fits w8 (255 - c.before.args.x) (omega arith)
 
 returns : tie.Need-returns
 returns c = to_z_pos w8 _ (omega arith) ∙ sym (twos_low 8 _ (omega arith))
 
 returns-2 : tie.Need-returns-2
-returns-2 c = flip-back w8 (255 - c.before.args.x) (omega arith) ∙ ap negsuc (omega arith) ∙ sym (twos_high 8 _ (omega arith))
+returns-2 c = flip_back w8 (255 - c.before.args.x) (omega arith) ∙ ap negsuc (omega arith) ∙ sym (twos_high 8 _ (omega arith))
 
 pub i8-of-spec : {M : Type 1} → statement M
 i8-of-spec = tie.close (tie.spec cast-result sub-y cast-z sub-result returns returns-2)

@@ -3,7 +3,7 @@ use borrow.Author.Rules.{rules}
 use lib.Ieee.{binary64}
 use mathlib.Core.Path.{sym, ap, ◌∙◌}
 use Rattle.sums_pairs.specs.Pairs.{quantity_difference}
-use Rattle.sums.specs.Views.{combinedAs, resulting}
+use Rattle.sums.specs.Views.{combined_as, resulting}
 use Rattle.sums.proofs.FloatLaws.{sub_strict}
 use Rattle.sums.proofs.RuleLaws.{difference_rule}
 use Rattle.sums.proofs.SumLaws.{answered}
@@ -33,14 +33,14 @@ returns c =
     let w = c.before.before.before in
     c.result.ensures
     ∙ answered quantity_difference _ difference_rule (sub_strict binary64) _ _ _
-    (c.before.subtract.ensures ∙ ap (combinedAs quantity_difference) (sym w.x.given.1) ∙ w.before.before.operands.ensures quantity_difference)
+    (c.before.subtract.ensures ∙ ap (combined_as quantity_difference) (sym w.x.given.1) ∙ w.before.before.operands.ensures quantity_difference)
 
 returns-2 : tie.Need-returns-2
 unfolding resulting
 returns-2 c =
     let w = c.before in
     c.refuse.ensures
-    ∙ answered quantity_difference _ difference_rule (sub_strict binary64) _ _ _ (ap (combinedAs quantity_difference) (sym w.enum_told.given.1) ∙ w.before.before.operands.ensures quantity_difference)
+    ∙ answered quantity_difference _ difference_rule (sub_strict binary64) _ _ _ (ap (combined_as quantity_difference) (sym w.enum_told.given.1) ∙ w.before.before.operands.ensures quantity_difference)
 
 pub difference-spec : {M : Type 1} → statement M
 difference-spec =

@@ -3,7 +3,7 @@ use borrow.Author.Rules.{rules}
 use mathlib.Core.Path.{sym, ap, ◌∙◌}
 use Rattle.sums_pairs.specs.Views.{seen}
 use Rattle.sums.specs.Views.{known_as}
-use Rattle.sums.proofs.SumLaws.{first-refused, second-refused, both-known}
+use Rattle.sums.proofs.SumLaws.{first_refused, second-refused, both-known}
 use Rattle.sums.proofs.operands.Statement.{statement}
 use Rattle.sums.proofs.operands.Tie as tie
 
@@ -26,7 +26,7 @@ enum-known-y : tie.Need-enum-known-y
 enum-known-y c = search rules
 
 returns : tie.Need-returns
-returns c = λ rule. sym (first-refused rule _ _ 17 0 (sym c.before.before.read.ensures ∙ ap known_as c.enum_told.given.1))
+returns c = λ rule. sym (first_refused rule _ _ 17 0 (sym c.before.before.read.ensures ∙ ap known_as c.enum_told.given.1))
 
 returns-2 : tie.Need-returns-2
 returns-2 c =

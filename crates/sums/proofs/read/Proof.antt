@@ -3,7 +3,7 @@ use borrow.Author.Rules.{rules}
 use borrow.Author.Tests.{not-true, not-false}
 use mathlib.Core.Path.{sym, ap, ◌∙◌}
 use Rattle.sim0mq.specs.Answer.{fine}
-use Rattle.sums.proofs.SumLaws.{no_double, mark-untaken, mark-taken}
+use Rattle.sums.proofs.SumLaws.{no_double, mark_untaken, mark_taken_lem}
 use Rattle.sums.proofs.read.Statement.{statement}
 use Rattle.sums.proofs.read.Tie as tie
 
@@ -14,7 +14,7 @@ mark-taken-requires : tie.Need-mark-taken-requires
 mark-taken-requires c κs = search rules
 
 returns : tie.Need-returns
-returns c = rw c.before.before.before.a.given.1 (sym (mark-untaken _ _ (sym c.before.mark-taken.ensures ∙ not-true _ c.if1.true)))
+returns c = rw c.before.before.before.a.given.1 (sym (mark_untaken _ _ (sym c.before.mark_taken_lem.ensures ∙ not-true _ c.if1.true)))
 
 quantity-of-requires : tie.Need-quantity-of-requires
 quantity-of-requires c κs = search rules
@@ -22,7 +22,7 @@ quantity-of-requires c κs = search rules
 returns-2 : tie.Need-returns-2
 returns-2 c =
     rw c.before.before.before.before.a.given.1
-    (ap fine c.quantity-of.ensures ∙ sym (mark-taken _ _ (sym c.before.before.mark-taken.ensures ∙ not-false _ c.before.if1.false)))
+    (ap fine c.quantity-of.ensures ∙ sym (mark_taken_lem _ _ (sym c.before.before.mark_taken_lem.ensures ∙ not-false _ c.before.if1.false)))
 
 returns-3 : tie.Need-returns-3
 returns-3 c = sym (no_double _ c.match.keys2)

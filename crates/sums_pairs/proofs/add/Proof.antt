@@ -5,7 +5,7 @@ use mathlib.Core.Path.{refl}
 use mathlib.Core.List.{[], ◌∷◌}
 use Rattle.sim0mq.proofs.Rows.{all_pass}
 use Rattle.sums_pairs.specs.Pairs.{quantity_sum}
-use Rattle.sums_pairs.proofs.PairLaws.{not-combined}
+use Rattle.sums_pairs.proofs.PairLaws.{not_combined}
 use Rattle.sums_pairs.proofs.add.Statement.{statement}
 use Rattle.sums_pairs.proofs.add.Tie as tie
 
@@ -119,7 +119,7 @@ returns-2 c = rw (c.before.before.before.before.before.a.given.1, c.before.befor
 returns-3 : tie.Need-returns-3
 unfolding all_pass quantity_sum
 returns-3 c =
-    not-combined quantity_sum _ c.before.before.before.before.args.b _ 2 (3 ∷ 4 ∷ 5 ∷ 6 ∷ 7 ∷ 8 ∷ []) c.before.before.a.given.1 c.match2.keys3 refl
+    not_combined quantity_sum _ c.before.before.before.before.args.b _ 2 (3 ∷ 4 ∷ 5 ∷ 6 ∷ 7 ∷ 8 ∷ []) c.before.before.a.given.1 c.match2.keys3 refl
 
 returns-4 : tie.Need-returns-4
 unfolding quantity_sum
@@ -128,7 +128,7 @@ returns-4 c = rw (c.before.before.before.before.before.a2.given.1, c.before.befo
 returns-5 : tie.Need-returns-5
 unfolding all_pass quantity_sum
 returns-5 c =
-    not-combined quantity_sum _ c.before.before.before.before.args.b _ 1 (2 ∷ 3 ∷ 4 ∷ 5 ∷ 6 ∷ 7 ∷ 8 ∷ []) c.before.before.a2.given.1 c.match3.keys2 refl
+    not_combined quantity_sum _ c.before.before.before.before.args.b _ 1 (2 ∷ 3 ∷ 4 ∷ 5 ∷ 6 ∷ 7 ∷ 8 ∷ []) c.before.before.a2.given.1 c.match3.keys2 refl
 
 returns-6 : tie.Need-returns-6
 unfolding quantity_sum
@@ -141,7 +141,7 @@ returns-7 c = rw (c.before.before.before.before.before.a3.given.1, c.before.befo
 returns-8 : tie.Need-returns-8
 unfolding all_pass quantity_sum
 returns-8 c =
-    not-combined quantity_sum _ c.before.before.before.before.args.b _ 0 (1 ∷ 4 ∷ 5 ∷ 6 ∷ 7 ∷ 8 ∷ []) c.before.before.a3.given.1 c.match4.keys3 refl
+    not_combined quantity_sum _ c.before.before.before.before.args.b _ 0 (1 ∷ 4 ∷ 5 ∷ 6 ∷ 7 ∷ 8 ∷ []) c.before.before.a3.given.1 c.match4.keys3 refl
 
 returns-9 : tie.Need-returns-9
 unfolding quantity_sum
@@ -150,7 +150,7 @@ returns-9 c = rw (c.before.before.before.before.before.a4.given.1, c.before.befo
 returns-10 : tie.Need-returns-10
 unfolding all_pass quantity_sum
 returns-10 c =
-    not-combined quantity_sum _ c.before.before.before.before.args.b _ 0 (1 ∷ 3 ∷ 4 ∷ 5 ∷ 6 ∷ 7 ∷ 8 ∷ []) c.before.before.a4.given.1 c.match5.keys2 refl
+    not_combined quantity_sum _ c.before.before.before.before.args.b _ 0 (1 ∷ 3 ∷ 4 ∷ 5 ∷ 6 ∷ 7 ∷ 8 ∷ []) c.before.before.a4.given.1 c.match5.keys2 refl
 
 returns-11 : tie.Need-returns-11
 unfolding quantity_sum
@@ -163,7 +163,7 @@ returns-12 c = rw (c.before.before.before.before.before.a5.given.1, c.before.bef
 returns-13 : tie.Need-returns-13
 unfolding all_pass quantity_sum
 returns-13 c =
-    not-combined quantity_sum _ c.before.before.before.before.args.b _ 0 (1 ∷ 2 ∷ 3 ∷ 6 ∷ 7 ∷ 8 ∷ []) c.before.before.a5.given.1 c.match6.keys3 refl
+    not_combined quantity_sum _ c.before.before.before.before.args.b _ 0 (1 ∷ 2 ∷ 3 ∷ 6 ∷ 7 ∷ 8 ∷ []) c.before.before.a5.given.1 c.match6.keys3 refl
 
 returns-14 : tie.Need-returns-14
 unfolding quantity_sum
@@ -172,7 +172,7 @@ returns-14 c = rw (c.before.before.before.before.before.a6.given.1, c.before.bef
 returns-15 : tie.Need-returns-15
 unfolding all_pass quantity_sum
 returns-15 c =
-    not-combined quantity_sum _ c.before.before.before.before.args.b _ 0 (1 ∷ 2 ∷ 3 ∷ 5 ∷ 6 ∷ 7 ∷ 8 ∷ []) c.before.before.a6.given.1 c.match7.keys2 refl
+    not_combined quantity_sum _ c.before.before.before.before.args.b _ 0 (1 ∷ 2 ∷ 3 ∷ 5 ∷ 6 ∷ 7 ∷ 8 ∷ []) c.before.before.a6.given.1 c.match7.keys2 refl
 
 returns-16 : tie.Need-returns-16
 unfolding quantity_sum
@@ -185,7 +185,7 @@ returns-17 c = rw (c.before.before.before.before.before.a7.given.1, c.before.bef
 returns-18 : tie.Need-returns-18
 unfolding all_pass quantity_sum
 returns-18 c =
-    not-combined quantity_sum _ c.before.before.before.before.args.b _ 0 (1 ∷ 2 ∷ 3 ∷ 4 ∷ 5 ∷ 8 ∷ []) c.before.before.a7.given.1 c.match8.keys3 refl
+    not_combined quantity_sum _ c.before.before.before.before.args.b _ 0 (1 ∷ 2 ∷ 3 ∷ 4 ∷ 5 ∷ 8 ∷ []) c.before.before.a7.given.1 c.match8.keys3 refl
 
 returns-19 : tie.Need-returns-19
 unfolding quantity_sum
@@ -194,7 +194,7 @@ returns-19 c = rw (c.before.before.before.before.before.a8.given.1, c.before.bef
 returns-20 : tie.Need-returns-20
 unfolding all_pass quantity_sum
 returns-20 c =
-    not-combined quantity_sum _ c.before.before.before.before.args.b _ 0 (1 ∷ 2 ∷ 3 ∷ 4 ∷ 5 ∷ 7 ∷ 8 ∷ []) c.before.before.a8.given.1 c.match9.keys2 refl
+    not_combined quantity_sum _ c.before.before.before.before.args.b _ 0 (1 ∷ 2 ∷ 3 ∷ 4 ∷ 5 ∷ 7 ∷ 8 ∷ []) c.before.before.a8.given.1 c.match9.keys2 refl
 
 returns-21 : tie.Need-returns-21
 returns-21 c = search rules

@@ -5,7 +5,7 @@ use mathlib.Core.Path.{refl}
 use mathlib.Core.List.{[], ◌∷◌}
 use Rattle.sim0mq.proofs.Rows.{all_pass}
 use Rattle.sums_pairs.specs.Pairs.{quantity_difference}
-use Rattle.sums_pairs.proofs.PairLaws.{not-combined}
+use Rattle.sums_pairs.proofs.PairLaws.{not_combined}
 use Rattle.sums_pairs.proofs.subtract.Statement.{statement}
 use Rattle.sums_pairs.proofs.subtract.Tie as tie
 
@@ -115,7 +115,7 @@ returns c = rw (c.before.before.before.before.before.a.given.1, c.before.before.
 returns-2 : tie.Need-returns-2
 unfolding all_pass quantity_difference
 returns-2 c =
-    not-combined quantity_difference _ c.before.before.before.before.args.b _ 1 (2 ∷ 3 ∷ 4 ∷ 5 ∷ 6 ∷ 7 ∷ 8 ∷ []) c.before.before.a.given.1 c.match2.keys2 refl
+    not_combined quantity_difference _ c.before.before.before.before.args.b _ 1 (2 ∷ 3 ∷ 4 ∷ 5 ∷ 6 ∷ 7 ∷ 8 ∷ []) c.before.before.a.given.1 c.match2.keys2 refl
 
 returns-3 : tie.Need-returns-3
 unfolding quantity_difference
@@ -128,7 +128,7 @@ returns-4 c = rw (c.before.before.before.before.before.a2.given.1, c.before.befo
 returns-5 : tie.Need-returns-5
 unfolding all_pass quantity_difference
 returns-5 c =
-    not-combined quantity_difference _ c.before.before.before.before.args.b _ 2 (3 ∷ 4 ∷ 5 ∷ 6 ∷ 7 ∷ 8 ∷ []) c.before.before.a2.given.1 c.match3.keys3 refl
+    not_combined quantity_difference _ c.before.before.before.before.args.b _ 2 (3 ∷ 4 ∷ 5 ∷ 6 ∷ 7 ∷ 8 ∷ []) c.before.before.a2.given.1 c.match3.keys3 refl
 
 returns-6 : tie.Need-returns-6
 unfolding quantity_difference
@@ -137,7 +137,7 @@ returns-6 c = rw (c.before.before.before.before.before.a3.given.1, c.before.befo
 returns-7 : tie.Need-returns-7
 unfolding all_pass quantity_difference
 returns-7 c =
-    not-combined quantity_difference _ c.before.before.before.before.args.b _ 0 (1 ∷ 3 ∷ 4 ∷ 5 ∷ 6 ∷ 7 ∷ 8 ∷ []) c.before.before.a3.given.1 c.match4.keys2 refl
+    not_combined quantity_difference _ c.before.before.before.before.args.b _ 0 (1 ∷ 3 ∷ 4 ∷ 5 ∷ 6 ∷ 7 ∷ 8 ∷ []) c.before.before.a3.given.1 c.match4.keys2 refl
 
 returns-8 : tie.Need-returns-8
 unfolding quantity_difference
@@ -150,7 +150,7 @@ returns-9 c = rw (c.before.before.before.before.before.a4.given.1, c.before.befo
 returns-10 : tie.Need-returns-10
 unfolding all_pass quantity_difference
 returns-10 c =
-    not-combined quantity_difference _ c.before.before.before.before.args.b _ 0 (1 ∷ 4 ∷ 5 ∷ 6 ∷ 7 ∷ 8 ∷ []) c.before.before.a4.given.1 c.match5.keys3 refl
+    not_combined quantity_difference _ c.before.before.before.before.args.b _ 0 (1 ∷ 4 ∷ 5 ∷ 6 ∷ 7 ∷ 8 ∷ []) c.before.before.a4.given.1 c.match5.keys3 refl
 
 returns-11 : tie.Need-returns-11
 unfolding quantity_difference
@@ -159,7 +159,7 @@ returns-11 c = rw (c.before.before.before.before.before.a5.given.1, c.before.bef
 returns-12 : tie.Need-returns-12
 unfolding all_pass quantity_difference
 returns-12 c =
-    not-combined quantity_difference _ c.before.before.before.before.args.b _ 0 (1 ∷ 2 ∷ 3 ∷ 5 ∷ 6 ∷ 7 ∷ 8 ∷ []) c.before.before.a5.given.1 c.match6.keys2 refl
+    not_combined quantity_difference _ c.before.before.before.before.args.b _ 0 (1 ∷ 2 ∷ 3 ∷ 5 ∷ 6 ∷ 7 ∷ 8 ∷ []) c.before.before.a5.given.1 c.match6.keys2 refl
 
 returns-13 : tie.Need-returns-13
 unfolding quantity_difference
@@ -172,7 +172,7 @@ returns-14 c = rw (c.before.before.before.before.before.a6.given.1, c.before.bef
 returns-15 : tie.Need-returns-15
 unfolding all_pass quantity_difference
 returns-15 c =
-    not-combined quantity_difference _ c.before.before.before.before.args.b _ 0 (1 ∷ 2 ∷ 3 ∷ 6 ∷ 7 ∷ 8 ∷ []) c.before.before.a6.given.1 c.match7.keys3 refl
+    not_combined quantity_difference _ c.before.before.before.before.args.b _ 0 (1 ∷ 2 ∷ 3 ∷ 6 ∷ 7 ∷ 8 ∷ []) c.before.before.a6.given.1 c.match7.keys3 refl
 
 returns-16 : tie.Need-returns-16
 unfolding quantity_difference
@@ -181,7 +181,7 @@ returns-16 c = rw (c.before.before.before.before.before.a7.given.1, c.before.bef
 returns-17 : tie.Need-returns-17
 unfolding all_pass quantity_difference
 returns-17 c =
-    not-combined quantity_difference _ c.before.before.before.before.args.b _ 0 (1 ∷ 2 ∷ 3 ∷ 4 ∷ 5 ∷ 7 ∷ 8 ∷ []) c.before.before.a7.given.1 c.match8.keys2 refl
+    not_combined quantity_difference _ c.before.before.before.before.args.b _ 0 (1 ∷ 2 ∷ 3 ∷ 4 ∷ 5 ∷ 7 ∷ 8 ∷ []) c.before.before.a7.given.1 c.match8.keys2 refl
 
 returns-18 : tie.Need-returns-18
 unfolding quantity_difference
@@ -194,7 +194,7 @@ returns-19 c = rw (c.before.before.before.before.before.a8.given.1, c.before.bef
 returns-20 : tie.Need-returns-20
 unfolding all_pass quantity_difference
 returns-20 c =
-    not-combined quantity_difference _ c.before.before.before.before.args.b _ 0 (1 ∷ 2 ∷ 3 ∷ 4 ∷ 5 ∷ 8 ∷ []) c.before.before.a8.given.1 c.match9.keys3 refl
+    not_combined quantity_difference _ c.before.before.before.before.args.b _ 0 (1 ∷ 2 ∷ 3 ∷ 4 ∷ 5 ∷ 8 ∷ []) c.before.before.a8.given.1 c.match9.keys3 refl
 
 returns-21 : tie.Need-returns-21
 returns-21 c = search rules

@@ -1,12 +1,12 @@
 -- Each return is a case of the definition, in the order of its tests.
 use native.Mathlib.Omega.{arith}
 use Rattle.sim0mq.specs.Message.{limit}
-use Rattle.writing.proofs.AddCases.{takes-full, takes-closed, takes-long, takes-room}
+use Rattle.writing.proofs.AddCases.{takes_full, takes-closed, takes-long, takes-room}
 use Rattle.writing.proofs.takes.Statement.{statement}
 use Rattle.writing.proofs.takes.Tie as tie
 
 returns : tie.Need-returns
-returns c = takes-full _ _ c.if1.true
+returns c = takes_full _ _ c.if1.true
 
 returns-2 : tie.Need-returns-2
 returns-2 c = takes-closed _ _ (omega arith) c.if2.true

@@ -9,7 +9,7 @@ use Rattle.sim0mq_kinds.specs.declared.Scalar.TheVariants.{Byte, Short, Int, Lon
 use Rattle.sim0mq_signed.proofs.Signed.{widened}
 use Rattle.writing_encoding.specs.Scalars.{code_of, scalar_text, writable}
 use Rattle.writing_puts.proofs.SignedLaws.{wider}
-use Rattle.writing_encoding.proofs.EncodeCases.{unwritable, written, signed-written, truth_text}
+use Rattle.writing_encoding.proofs.EncodeCases.{unwritable, written, signed_written, truth_text}
 use Rattle.writing_encoding.proofs.encode.Statement.{statement}
 use Rattle.writing_encoding.proofs.encode.Tie as tie
 
@@ -117,28 +117,28 @@ unfolding writable scalar_text code_of mark_bytes scalar_bytes
 returns c =
     let z = c.before.before.before.value.given.0.0 in
     rw c.before.before.before.value.given.1
-    (c.plain.ensures ∙ signed-written (Byte z) 0 1 8 _ _ z refl refl c.before.bits.ensures (wider w8 z (search rules) w64 (omega arith)))
+    (c.plain.ensures ∙ signed_written (Byte z) 0 1 8 _ _ z refl refl c.before.bits.ensures (wider w8 z (search rules) w64 (omega arith)))
 
 returns-2 : tie.Need-returns-2
 unfolding writable scalar_text code_of mark_bytes scalar_bytes
 returns-2 c =
     let z = c.before.before.before.value2.given.0.0 in
     rw c.before.before.before.value2.given.1
-    (c.plain2.ensures ∙ signed-written (Short z) 1 2 16 _ _ z refl refl c.before.bits2.ensures (wider w16 z (search rules) w64 (omega arith)))
+    (c.plain2.ensures ∙ signed_written (Short z) 1 2 16 _ _ z refl refl c.before.bits2.ensures (wider w16 z (search rules) w64 (omega arith)))
 
 returns-3 : tie.Need-returns-3
 unfolding writable scalar_text code_of mark_bytes scalar_bytes
 returns-3 c =
     let z = c.before.before.before.value3.given.0.0 in
     rw c.before.before.before.value3.given.1
-    (c.plain3.ensures ∙ signed-written (Int z) 2 4 32 _ _ z refl refl c.before.bits3.ensures (wider w32 z (search rules) w64 (omega arith)))
+    (c.plain3.ensures ∙ signed_written (Int z) 2 4 32 _ _ z refl refl c.before.bits3.ensures (wider w32 z (search rules) w64 (omega arith)))
 
 returns-4 : tie.Need-returns-4
 unfolding writable scalar_text code_of mark_bytes scalar_bytes
 returns-4 c =
     let z = c.before.before.before.value4.given.0.0 in
     rw c.before.before.before.value4.given.1
-    (c.plain4.ensures ∙ signed-written (Long z) 3 8 64 _ _ z refl refl c.before.bits4.ensures (to_z-of_z w64 z (search rules)))
+    (c.plain4.ensures ∙ signed_written (Long z) 3 8 64 _ _ z refl refl c.before.bits4.ensures (to_z-of_z w64 z (search rules)))
 
 returns-5 : tie.Need-returns-5
 returns-5 c = rw c.before.before.value5.given.1 c.float.ensures

@@ -3,7 +3,7 @@ use borrow.Author.Rules.{rules}
 use mathlib.Core.Path.{sym, ◌∙◌}
 use native.Mathlib.Omega.{arith}
 use borrow.Author.Tests.{not-true, not-false}
-use Rattle.writing_encoding.proofs.EncodeCases.{untaken-encoded, marked-short, marked-encoded}
+use Rattle.writing_encoding.proofs.EncodeCases.{untaken_encoded, marked-short, marked-encoded}
 use Rattle.writing_encoding.proofs.marked.Statement.{statement}
 use Rattle.writing_encoding.proofs.marked.Tie as tie
 
@@ -13,7 +13,7 @@ mark-taken-requires c κs = search rules
 returns : tie.Need-returns
 returns c =
     let args = c.before.before.args in
-    untaken-encoded args.code args.n args.x args.mark (sym c.before.mark-taken.ensures ∙ not-true _ c.if1.true)
+    untaken_encoded args.code args.n args.x args.mark (sym c.before.mark_taken_lem.ensures ∙ not-true _ c.if1.true)
 
 array-write-bytes : tie.Need-array-write-bytes
 array-write-bytes c = search rules
@@ -22,7 +22,7 @@ slice-aggregate-put-mark : tie.Need-slice-aggregate-put-mark
 slice-aggregate-put-mark c = search rules
 
 put-mark-requires : tie.Need-put-mark-requires
-put-mark-requires c κs = (sym c.before.before.mark-taken.ensures ∙ not-false _ c.before.if1.false, omega arith)
+put-mark-requires c κs = (sym c.before.before.mark_taken_lem.ensures ∙ not-false _ c.before.if1.false, omega arith)
 
 slice-aggregate-put-big : tie.Need-slice-aggregate-put-big
 slice-aggregate-put-big c = search rules
@@ -42,7 +42,7 @@ returns-2 c =
     let start = c.before.before.before.before.before.before.before.before in
     let put = c.before.before.before.before.put-mark.ensures in
     marked-encoded start.args.code start.args.n start.args.x start.args.mark _ _ put.0 put.1 _ start.requires
-    (sym c.before.before.before.before.before.before.before.mark-taken.ensures
+    (sym c.before.before.before.before.before.before.before.mark_taken_lem.ensures
     ∙ not-false _ c.before.before.before.before.before.before.if1.false)
     c.before.put-big.ensures
 

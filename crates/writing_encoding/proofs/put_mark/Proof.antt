@@ -3,7 +3,7 @@ use borrow.Author.Rules.{rules}
 use native.Mathlib.Omega.{arith}
 use mathlib.Core.Path.{◌∙◌}
 use lib.ListN.{length-set}
-use Rattle.writing_encoding.proofs.EncodeCases.{taken-money, plain-written, money-length, money-written, per-written}
+use Rattle.writing_encoding.proofs.EncodeCases.{taken_money, plain-written, money-length, money-written, per-written}
 use Rattle.writing_encoding.proofs.put_mark.Statement.{statement}
 use Rattle.writing_encoding.proofs.put_mark.Tie as tie
 
@@ -47,7 +47,7 @@ same-length-3 c =
 returns-3 : tie.Need-returns-3
 returns-3 c =
     let start = c.before.before.before.before.before.before.before.before.before.before in
-    let is = taken-money start.args.mark start.requires.0 c.before.before.before.before.before.before.before.if1.false in
+    let is = taken_money start.args.mark start.requires.0 c.before.before.before.before.before.before.before.if1.false in
     per-written _ _ start.requires.1 _ c.before.before.before.before.put-big.ensures (omega (arith, is.0)) is.1
 
 pub put-mark-spec : {M : Type 1} → statement M

@@ -6,7 +6,7 @@ use mathlib.Core.Path.{◌≡◌, refl, sym, ap, ◌∙◌}
 use Rattle.sim0mq.specs.Field.{after}
 use Rattle.reading_fields.specs.Items.{fielded}
 use Rattle.writing_opening.specs.Opening.{ids_from}
-use Rattle.writing_opening.proofs.HeaderCases.{ids-stop, ids_more, ids-over, ids_end, id_goes}
+use Rattle.writing_opening.proofs.HeaderCases.{ids_stop, ids_more, ids_over, ids_end, id_goes}
 use Rattle.writing_opening.proofs.id_frames.Statement.{statement}
 use Rattle.writing_opening.proofs.id_frames.Tie as tie
 
@@ -29,7 +29,7 @@ returns : tie.Need-returns invariant-loop decreases-loop
 returns c =
     let stopped = sym c.before.before.before.id.ensures ∙ ap fielded c.before.r.given.1 in
     let left = c.before.before.before.before.before.loop.left in
-    sym (ids-stop _ left _ (left - 1) _ _ (omega arith) stopped) ∙ c.before.before.before.before.before.loop.invariant
+    sym (ids_stop _ left _ (left - 1) _ _ (omega arith) stopped) ∙ c.before.before.before.before.before.loop.invariant
 
 enum-known-f : tie.Need-enum-known-f invariant-loop decreases-loop
 enum-known-f c = search rules
@@ -55,7 +55,7 @@ refuse-requires : tie.Need-refuse-requires invariant-loop decreases-loop
 refuse-requires c κs = search rules
 
 returns-2 : tie.Need-returns-2 invariant-loop decreases-loop
-returns-2 c = c.refuse.ensures ∙ sym (ids-over _ _ _ (omega arith) c.before.if1.true) ∙ c.before.before.before.loop.invariant
+returns-2 c = c.refuse.ensures ∙ sym (ids_over _ _ _ (omega arith) c.before.if1.true) ∙ c.before.before.before.loop.invariant
 
 returns-3 : tie.Need-returns-3 invariant-loop decreases-loop
 returns-3 c = sym (ids_end _ _ _ (omega arith) (omega arith)) ∙ c.before.before.loop.invariant

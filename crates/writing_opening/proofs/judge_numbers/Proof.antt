@@ -7,7 +7,7 @@ use mathlib.Core.Logic.{⊎_elim}
 use Rattle.sim0mq.specs.Message.{limit}
 use Rattle.sim0mq.specs.Codes.{width_of}
 use Rattle.sim0mq.proofs.Rows.{eight_wide}
-use Rattle.writing_opening.proofs.HeaderCases.{numbers-low, numbers-high, numbers-type, numbers-many, numbers-above, numbers_long, numbers-room, numbers-fine}
+use Rattle.writing_opening.proofs.HeaderCases.{numbers_low, numbers_high, numbers-type, numbers-many, numbers-above, numbers_long, numbers-room, numbers-fine}
 use Rattle.writing_opening.proofs.judge_numbers.Statement.{statement}
 use Rattle.writing_opening.proofs.judge_numbers.Tie as tie
 
@@ -15,13 +15,13 @@ refuse-requires : tie.Need-refuse-requires
 refuse-requires c κs = search rules
 
 returns : tie.Need-returns
-returns c = c.refuse.ensures ∙ sym (numbers-low _ _ _ _ _ c.before.if1.true)
+returns c = c.refuse.ensures ∙ sym (numbers_low _ _ _ _ _ c.before.if1.true)
 
 refuse-requires-2 : tie.Need-refuse-requires-2
 refuse-requires-2 c κs = search rules
 
 returns-2 : tie.Need-returns-2
-returns-2 c = c.refuse2.ensures ∙ sym (numbers-high _ _ _ _ _ (omega arith) c.before.if2.true)
+returns-2 c = c.refuse2.ensures ∙ sym (numbers_high _ _ _ _ _ (omega arith) c.before.if2.true)
 
 refuse-requires-3 : tie.Need-refuse-requires-3
 refuse-requires-3 c κs = search rules

@@ -2,7 +2,7 @@
 use borrow.Author.Rules.{rules}
 use mathlib.Core.Path.{sym, ap, ◌∙◌}
 use Rattle.sim0mq.specs.Views.{judged}
-use Rattle.writing_opening.proofs.HeaderCases.{opening-stop, opening-numbers}
+use Rattle.writing_opening.proofs.HeaderCases.{opening_stop, opening_numbers_lem}
 use Rattle.writing_opening.proofs.judge_opening.Statement.{statement}
 use Rattle.writing_opening.proofs.judge_opening.Tie as tie
 
@@ -19,12 +19,12 @@ judge-numbers-requires : tie.Need-judge-numbers-requires
 judge-numbers-requires c κs = search rules
 
 returns : tie.Need-returns
-returns c = sym (opening-stop _ _ _ _ _ _ _ (sym c.before.before.before.id-frames.ensures ∙ ap judged c.before.r.given.1))
+returns c = sym (opening_stop _ _ _ _ _ _ _ (sym c.before.before.before.id-frames.ensures ∙ ap judged c.before.r.given.1))
 
 returns-2 : tie.Need-returns-2
 returns-2 c =
     c.judge-numbers.ensures
-    ∙ opening-numbers _ _ _ _ _ _ (sym c.before.before.before.id-frames.ensures ∙ ap judged c.before.enum_told.given.1)
+    ∙ opening_numbers_lem _ _ _ _ _ _ (sym c.before.before.before.id-frames.ensures ∙ ap judged c.before.enum_told.given.1)
 
 pub judge-opening-spec : {M : Type 1} → statement M
 judge-opening-spec =

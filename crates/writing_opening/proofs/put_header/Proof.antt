@@ -4,7 +4,7 @@ use mathlib.Core.Path.{ap, ◌∙◌}
 use mir.Syntax.{w64}
 use Rattle.sim0mq.specs.Codes.{width_of}
 use Rattle.writing_puts.proofs.SignedLaws.{bits_are}
-use Rattle.writing_opening.proofs.HeaderCases.{header-placed}
+use Rattle.writing_opening.proofs.HeaderCases.{header_placed}
 use Rattle.writing_opening.proofs.put_header.Statement.{statement}
 use Rattle.writing_opening.proofs.put_header.Tie as tie
 
@@ -52,7 +52,7 @@ returns c =
     let start = c.before.before.before.before.before.before.before.before.before.before.before.before.before.before.before.before.before.before.before.before.before.before.before.before.before.before in
     let number = c.before.before.before.before.before.before.before.before.before.before.before.before.before.bits.ensures ∙ bits_are w64 start.args.number start.ranges.number 64 in
     let width = c.before.before.before.width.ensures ∙ ap width_of c.before.before.before.before.wide.ensures.0 in
-    header-placed _ _ _ _ _ _ _ _ _ _ _ _ _ number width start.requires.1 c.before.before.before.before.before.before.before.before.before.before.before.before.before.before.before.before.before.before.before.before.before.put.ensures c.before.before.before.before.before.before.before.before.before.before.before.before.before.before.before.before.before.put2.ensures
+    header_placed _ _ _ _ _ _ _ _ _ _ _ _ _ number width start.requires.1 c.before.before.before.before.before.before.before.before.before.before.before.before.before.before.before.before.before.before.before.before.before.put.ensures c.before.before.before.before.before.before.before.before.before.before.before.before.before.before.before.before.before.put2.ensures
     c.before.before.before.before.before.before.before.before.before.before.before.before.put-number.ensures c.before.before.before.before.before.before.before.before.put-number2.ensures c.before.before.put-number3.ensures
 
 pub put-header-spec : {M : Type 1} → statement M

@@ -3,7 +3,7 @@
 use native.Mathlib.Omega.{arith}
 use mir.Syntax.{w64}
 use Rattle.sim0mq_signed.proofs.Signed.{up, down, down_fits}
-use Rattle.writing_puts.proofs.SignedLaws.{bits_up, bits-down, bits_none}
+use Rattle.writing_puts.proofs.SignedLaws.{bits_up, bits_down, bits_none}
 use Rattle.writing_puts.proofs.bits.Statement.{statement}
 use Rattle.writing_puts.proofs.bits.Tie as tie
 
@@ -23,7 +23,7 @@ returns-2 : tie.Need-returns-2
 returns-2 c = let at = c.before.before in bits_none w64 at.args.most at.args.z at.ranges.z c.before.if1.false c.if2.true
 
 returns-3 : tie.Need-returns-3
-returns-3 c = let at = c.before.before in bits-down w64 at.args.most at.args.z at.ranges.z c.before.if1.false
+returns-3 c = let at = c.before.before in bits_down w64 at.args.most at.args.z at.ranges.z c.before.if1.false
 
 pub bits-spec : {M : Type 1} → statement M
 bits-spec = tie.close (tie.spec cast-result returns sub-down cast-below returns-2 returns-3)

@@ -7,7 +7,7 @@ use mathlib.Core.Path.{◌≡◌, refl, ap, sym, ◌∙◌}
 use lib.ListN.{length, length-set}
 use Rattle.sim0mq_numbers.specs.Bytes.{big_bytes}
 use Rattle.sim0mq.specs.Table.{placed}
-use Rattle.sim0mq.proofs.PlaceLaws.{placed-nothing}
+use Rattle.sim0mq.proofs.PlaceLaws.{placed_nothing}
 use Rattle.writing_puts.proofs.PlaceLaws.{placed_turn, big_fits, big_over}
 use Rattle.writing_puts.proofs.put_big.Statement.{statement}
 use Rattle.writing_puts.proofs.put_big.Tie as tie
@@ -67,7 +67,7 @@ returns-3 c =
     let a = c.before.before.before.before.args in
     let none : c.before.loop.left ≡ 0 = omega arith in
     let out = c.before.loop.out in
-    placed-nothing out a.at ∙ ap (λ (k : ℕ). placed out a.at (big_bytes k c.before.loop.rest)) (sym none) ∙ inv.1
+    placed_nothing out a.at ∙ ap (λ (k : ℕ). placed out a.at (big_bytes k c.before.loop.rest)) (sym none) ∙ inv.1
     ∙ sym (big_fits a.out.now a.at a.n a.x (omega arith))
 
 pub put-big-spec : {M : Type 1} → statement M

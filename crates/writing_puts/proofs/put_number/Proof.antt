@@ -6,14 +6,14 @@ use mathlib.Core.Path.{ap, sym, ◌∙◌}
 use lib.ListN.{length, set, length-set}
 use Rattle.sim0mq_numbers.specs.Bytes.{big_bytes}
 use Rattle.writing_puts.specs.Placing.{number_text}
-use Rattle.sim0mq.proofs.PlaceLaws.{placed-length}
-use Rattle.sim0mq_buffers.proofs.PlaceLaws.{put_fits, put-over}
+use Rattle.sim0mq.proofs.PlaceLaws.{placed_length}
+use Rattle.sim0mq_buffers.proofs.PlaceLaws.{put_fits, put_over}
 use Rattle.writing_puts.proofs.PlaceLaws.{placed_coded, big_length, big_fits}
 use Rattle.writing_puts.proofs.put_number.Statement.{statement}
 use Rattle.writing_puts.proofs.put_number.Tie as tie
 
 returns : tie.Need-returns
-returns c = put-over _ _ _ (omega arith)
+returns c = put_over _ _ _ (omega arith)
 
 sub-if2 : tie.Need-overflow-sub-if2
 sub-if2 c = search rules
@@ -22,7 +22,7 @@ returns-2 : tie.Need-returns-2
 returns-2 c =
     let a = c.before.before.before.args in
     let long = big_length a.n a.x in
-    put-over a.out.now a.at (number_text a.code a.n a.x) (omega arith)
+    put_over a.out.now a.at (number_text a.code a.n a.x) (omega arith)
 
 slice-write-out : tie.Need-slice-write-out
 slice-write-out c = search rules
@@ -39,7 +39,7 @@ same_length c =
     let same = length-set a.out.now a.at a.code in
     let long = big_length a.n a.x in
     let fits = big_fits (set a.out.now a.at a.code) (a.at + 1) a.n a.x (omega arith) in
-    ap length (c.before.before.put-big.ensures ∙ fits) ∙ placed-length _ (a.at + 1) (big_bytes a.n a.x) (omega arith) ∙ same
+    ap length (c.before.before.put-big.ensures ∙ fits) ∙ placed_length _ (a.at + 1) (big_bytes a.n a.x) (omega arith) ∙ same
 
 returns-3 : tie.Need-returns-3
 returns-3 c =

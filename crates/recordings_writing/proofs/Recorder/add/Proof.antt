@@ -3,7 +3,7 @@ use mathlib.Core.Path.{refl, sym, ◌∙◌}
 use native.Mathlib.Omega.{arith}
 use borrow.Author.Tests.{not-true, not-false}
 use Rattle.recordings_format.specs.Edition.{most_messages}
-use Rattle.recordings_writing.proofs.StateLaws.{told_added, adding-state, adding-many, adding-fault, adding-text}
+use Rattle.recordings_writing.proofs.StateLaws.{told_added, adding_state, adding-many, adding-fault, adding_text}
 use borrow.Author.Rules.{rules}
 use Rattle.recordings_writing.proofs.Recorder.add.Statement.{statement}
 use Rattle.recordings_writing.proofs.Recorder.add.Tie as tie
@@ -18,7 +18,7 @@ returns : tie.Need-returns
 returns c =
     let message = c.before.before.before.before.before.args.message.now in
     let bad = sym c.before.before.usable.ensures ∙ not-true _ c.before.if1.true in
-    told_added _ _ _ _ _ _ (adding-state _ _ message bad) c.refused.ensures refl
+    told_added _ _ _ _ _ _ (adding_state _ _ message bad) c.refused.ensures refl
 
 refused-requires-2 : tie.Need-refused-requires-2
 refused-requires-2 c κs = search rules
@@ -71,7 +71,7 @@ returns-4 c =
     let a = first.before.before.before.before.args in
     let good = sym first.before.usable.ensures ∙ not-false _ first.if1.false in
     let said = c.before.before.before.before.enum_told.given.1 in
-    let taken = adding-text a.self _ a.message.now good (omega arith) _ there.judge.ensures _ said in
+    let taken = adding_text a.self _ a.message.now good (omega arith) _ there.judge.ensures _ said in
     let put = c.before.before.append.ensures in
     told_added _ _ _ _ _ _ taken put.0 put.1
 

@@ -5,7 +5,7 @@ use native.Mathlib.Omega.{arith}
 use lib.Seq.{length-take-le}
 use borrow.Author.Tests.{not-true, not-false}
 use Rattle.recordings_format.specs.Edition.{most_messages}
-use Rattle.recordings_writing.proofs.CloseCases.{told_closed, closing-state, closing-count, closing-most, closing-fault, closing-there, closing_end}
+use Rattle.recordings_writing.proofs.CloseCases.{told_closed, closing_state, closing-count, closing-most, closing-fault, closing-there, closing_end}
 use Rattle.recordings_writing.proofs.StateLaws.{usable_true}
 use borrow.Author.Rules.{rules}
 use Rattle.recordings_writing.proofs.Recorder.close.Statement.{statement}
@@ -20,7 +20,7 @@ refused-requires c κs = search rules
 returns : tie.Need-returns
 returns c =
     let bad = sym c.before.before.usable.ensures ∙ not-true _ c.before.if1.true in
-    told_closed _ _ _ _ _ _ (closing-state _ c.before.before.before.before.args.out.now bad) c.refused.ensures refl
+    told_closed _ _ _ _ _ _ (closing_state _ c.before.before.before.before.args.out.now bad) c.refused.ensures refl
 
 slice-reshare-prefix-divide : tie.Need-slice-reshare-prefix-divide
 slice-reshare-prefix-divide c =

@@ -5,7 +5,7 @@ use borrow.Author.Rules.{rules}
 use native.Mathlib.Omega.{arith}
 use mir.Syntax.{w8}
 use mir.ValLaws.{to_z_pos}
-use Rattle.sim0mq_signed.proofs.Signed.{flip-fits, flip-back}
+use Rattle.sim0mq_signed.proofs.Signed.{flip_fits, flip_back}
 use Rattle.vectors_lines.proofs.wholes.byte_of.Statement.{statement}
 use Rattle.vectors_lines.proofs.wholes.byte_of.Tie as tie
 
@@ -16,11 +16,11 @@ cast-z : tie.Need-overflow-cast-z
 cast-z c = search rules
 
 sub-result : tie.Need-overflow-sub-result
-sub-result c = flip-fits w8 c.before.before.args.n (omega arith)
+sub-result c = flip_fits w8 c.before.before.args.n (omega arith)
 
 returns-2 : tie.Need-returns-2
 returns-2 c =
-    ((λ (h : 127 < c.before.before.args.n). absurd (omega arith)), (λ _. rw c.if2.true (flip-back w8 c.before.before.args.n (omega arith))))
+    ((λ (h : 127 < c.before.before.args.n). absurd (omega arith)), (λ _. rw c.if2.true (flip_back w8 c.before.before.args.n (omega arith))))
 
 returns-3 : tie.Need-returns-3
 returns-3 c =

@@ -3,7 +3,7 @@ use borrow.Author.Tests.{not-true, not-false}
 use mathlib.Core.Path.{refl, sym, ap, ◌∙◌}
 use Rattle.sim0mq.specs.Views.{judged}
 use Rattle.writing.specs.Writing.{encoded}
-use Rattle.writing.proofs.AddCases.{told_as, adding-state, adding-field, adding-text, encoded-refused, encoded-fine}
+use Rattle.writing.proofs.AddCases.{told_as, adding_state, adding_field, adding_text, encoded_refused, encoded_fine}
 use borrow.Author.Rules.{rules}
 use Rattle.writing.proofs.Writer.add.Statement.{statement}
 use Rattle.writing.proofs.Writer.add.Tie as tie
@@ -16,7 +16,7 @@ refused-requires c κs = search rules
 
 returns : tie.Need-returns
 returns c =
-    let e = adding-state _ _ (encoded c.before.before.before.before.before.args.field.now) (sym c.before.before.takes.ensures ∙ not-true _ c.before.if1.true) in
+    let e = adding_state _ _ (encoded c.before.before.before.before.before.args.field.now) (sym c.before.before.takes.ensures ∙ not-true _ c.before.if1.true) in
     told_as _ _ _ _ _ _ e c.refused.ensures refl
 
 slice-aggregate-payload : tie.Need-slice-aggregate-payload
@@ -40,8 +40,8 @@ append-requires c κs = sym c.before.before.before.before.before.before.before.t
 returns-2 : tie.Need-returns-2
 returns-2 c =
     let taken = sym c.before.before.before.before.before.before.before.before.takes.ensures ∙ not-false _ c.before.before.before.before.before.before.before.if1.false in
-    let stopped = encoded-refused _ _ _ (sym c.before.before.before.before.before.payload.ensures.0.0 ∙ ap judged c.before.before.r.given.1) in
-    let e = adding-field _ _ (encoded c.before.before.before.before.before.before.before.before.before.before.before.args.field.now) _ _ taken stopped in
+    let stopped = encoded_refused _ _ _ (sym c.before.before.before.before.before.payload.ensures.0.0 ∙ ap judged c.before.before.r.given.1) in
+    let e = adding_field _ _ (encoded c.before.before.before.before.before.before.before.before.before.before.before.args.field.now) _ _ taken stopped in
     told_as _ _ _ _ _ _ e c.refused2.ensures refl
 
 same_length : tie.Need-same-length
@@ -50,8 +50,8 @@ same_length c = search rules
 returns-3 : tie.Need-returns-3
 returns-3 c =
     let taken = sym c.before.before.before.before.before.before.before.before.before.before.takes.ensures ∙ not-false _ c.before.before.before.before.before.before.before.before.before.if1.false in
-    let granted = encoded-fine _ _ (sym c.before.before.before.before.before.before.before.payload.ensures.0.0 ∙ ap judged c.before.before.before.before.enum_told.given.1) in
-    let e = adding-text _ _ (encoded c.before.before.before.before.before.before.before.before.before.before.before.before.before.args.field.now) _ taken granted in
+    let granted = encoded_fine _ _ (sym c.before.before.before.before.before.before.before.payload.ensures.0.0 ∙ ap judged c.before.before.before.before.enum_told.given.1) in
+    let e = adding_text _ _ (encoded c.before.before.before.before.before.before.before.before.before.before.before.before.before.args.field.now) _ taken granted in
     told_as _ _ _ _ _ _ e c.before.before.append.ensures.0 c.before.before.append.ensures.1
 
 pub add_spec : {M : Type 1} → statement M

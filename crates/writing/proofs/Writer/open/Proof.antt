@@ -6,7 +6,7 @@ use mir.Syntax.{w64}
 use mir.ValLaws.{to_z-of_z}
 use Rattle.sim0mq.specs.Views.{judged}
 use Rattle.writing.specs.Writing.{asks_for}
-use Rattle.writing.proofs.OpenCases.{opening-refused, opening-granted}
+use Rattle.writing.proofs.OpenCases.{opening_refused, opening_granted}
 use Rattle.writing.proofs.Writer.open.Statement.{statement}
 use Rattle.writing.proofs.Writer.open.Tie as tie
 
@@ -31,7 +31,7 @@ returns c =
     let a = start.args in
     let o = asks_for a.ids.now a.number a.status a.fields a.kind in
     let number = to_z-of_z w64 a.number start.ranges.number in
-    opening-refused o a.out.now _ (length a.out.now) _ _ c.before.before.before.before.before.before.before.code_of_lem.ensures number c.before.before.before.before.before.write-header.ensures.1 _ _ (sym (ap judged c.before.r.given.1) ∙ c.before.before.before.before.before.write-header.ensures.0)
+    opening_refused o a.out.now _ (length a.out.now) _ _ c.before.before.before.before.before.before.before.code_of_lem.ensures number c.before.before.before.before.before.write-header.ensures.1 _ _ (sym (ap judged c.before.r.given.1) ∙ c.before.before.before.before.before.write-header.ensures.0)
 
 same-length-2 : tie.Need-same-length-2
 same-length-2 c = search rules
@@ -42,7 +42,7 @@ returns-2 c =
     let a = start.args in
     let o = asks_for a.ids.now a.number a.status a.fields a.kind in
     let number = to_z-of_z w64 a.number start.ranges.number in
-    opening-granted o a.out.now _ (length a.out.now) _ _ c.before.before.before.before.before.before.before.code_of_lem.ensures number c.before.before.before.before.before.write-header.ensures.1 _ (sym (ap judged c.before.n.given.1) ∙ c.before.before.before.before.before.write-header.ensures.0)
+    opening_granted o a.out.now _ (length a.out.now) _ _ c.before.before.before.before.before.before.before.code_of_lem.ensures number c.before.before.before.before.before.write-header.ensures.1 _ (sym (ap judged c.before.n.given.1) ∙ c.before.before.before.before.before.write-header.ensures.0)
 
 pub open_spec : {M : Type 1} → statement M
 open_spec =

@@ -1,0 +1,18 @@
+-- What is read so far is the number of the bytes so far, and has no more bytes than they.
+use borrow.Author.Rules.{rules}
+use Prim.Native.Nat.{◌*◌, ℕ, ◌+◌, ◌-◌, ◌^◌, ◌<◌, ◌≤◌}
+use mathlib.Core.Path.{ap₂, subst, ◌≡◌, refl, sym, ◌∙◌, ap}
+use native.Mathlib.Nat.{pow-suc, pow-le-pow_right, one-le-pow, lt_of_lt_of_le}
+use native.Mathlib.Omega.{arith}
+use native.Mathlib.Numerals.{add-one}
+use lib.Dec.{lit<}
+use lib.ListN.{length}
+use Rattle.sim0mq.specs.Answer.{big}
+use Rattle.sim0mq_numbers.proofs.NumberCases.{number_there, number_short, number_long, number_more}
+use Rattle.sim0mq_numbers.proofs.number.Given as goal
+
+abbrev pub invariant-loop-i : goal.invariant-loop-i
+invariant-loop-i l = (l.i ≤ l.n) × ((l.x ≡ big l.s l.at l.i) × (l.x < 256 ^ l.i)) × (l.at + l.n ≤ length l.s) × (l.n ≤ 8)
+
+abbrev pub decreases-loop-i : goal.decreases-loop-i
+decreases-loop-i l = l.n - l.i

@@ -1,0 +1,8 @@
+-- The row is the definition's, and past its end there is none.
+use borrow.Author.Rules.{rules}
+use Rattle.sim0mq.specs.Mark.{last_row}
+use Rattle.sim0mq_tables.proofs.TableCases.{past}
+use Rattle.sim0mq_tables.proofs.last.Goals as goal
+
+pub returns : goal.returns
+returns c = past last_row c.args.t (search rules)
