@@ -1,4 +1,6 @@
 // Texts put into a lent buffer, and bytes of it cleared.
+#![tactic(auto)]
+
 ghost use Rattle.std.specs.Prelude.{◌≡◌, ◌+◌, ◌≤◌, length, replicate};
 ghost use Rattle.std.proofs.lemmas.List.Edits.{sets};
 ghost use Rattle.sim0mq_buffers.specs.Placing.{put_in, cleared_in};

@@ -10,6 +10,6 @@ no_nan nan e = sym nan_differs ∙ e
 no_nan (inf s) e = refl
 no_nan (fin s m k) e = refl
 
-pub is_nan : (x : Float) → ne x x ≡ true → is_nan x ≡ true
+pub is_nan_lem : (x : Float) → ne x x ≡ true → is_nan x ≡ true
 unfolding is_nan
-is_nan x e = ap is_nan (differs_from_itself x (rw e tt))
+is_nan_lem x e = ap is_nan (differs_from_itself x (rw e tt))

@@ -1,4 +1,6 @@
 // The kinds of a scalar value, and the float or double that some bits write.
+#![tactic(auto)]
+
 ghost use Rattle.std.specs.Prelude.{◌≡◌};
 ghost use Rattle.sim0mq_kinds.specs.Kinds.{float_of, double_of, with_float, with_double};
 

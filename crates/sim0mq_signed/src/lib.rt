@@ -1,4 +1,6 @@
 // The signed number that some bits write, of each of the four widths.
+#![tactic(auto)]
+
 ghost use Rattle.std.specs.Prelude.{◌≡◌};
 ghost use Rattle.sim0mq_signed.specs.Signed.{twos};
 

@@ -3,7 +3,7 @@ use borrow.Author.Rules.{rules}
 use mathlib.Core.Path.{refl, ◌∙◌}
 use Rattle.asking_scalars.specs.Bytes.{scalar_bytes, mark_bytes}
 use Rattle.sim0mq_kinds.specs.declared.Scalar.TheVariants.{DoubleUnit}
-use Rattle.sim0mq_kinds.proofs.Nan.{no_nan, is_nan}
+use Rattle.sim0mq_kinds.proofs.Nan.{no_nan, is_nan_lem}
 use Rattle.writing_encoding.specs.Scalars.{code_of, scalar_text, writable}
 use Rattle.writing_encoding.proofs.EncodeCases.{unwritable, marked_written}
 use Rattle.writing_encoding.proofs.double_with.Statement.{statement}
@@ -11,7 +11,7 @@ use Rattle.writing_encoding.proofs.double_with.Tie as tie
 
 returns : tie.Need-returns
 unfolding writable
-returns c = let args = c.before.args in unwritable (DoubleUnit args.x args.mark) (simp (is_nan args.x c.if1.true))
+returns c = let args = c.before.args in unwritable (DoubleUnit args.x args.mark) (simp (is_nan_lem args.x c.if1.true))
 
 float-to-bits-marked : tie.Need-float-to-bits-marked
 float-to-bits-marked c = rw (no_nan _ c.if1.false) tt

@@ -1,0 +1,14 @@
+-- What is left to judge from here on answers for the whole; each turn judges one mark.
+use native.Mathlib.Omega.{arith}
+use borrow.Author.Rules.{rules}
+use mathlib.Core.Path.{◌≡◌, refl, sym, ap, ◌∙◌}
+use Rattle.sim0mq.specs.Mark.{marks}
+use Rattle.sim0mq.specs.Views.{judged}
+use Rattle.sim0mq_marks.proofs.MarkCases.{marks_done, marks_more, marks_stop}
+use Rattle.sim0mq_marks.proofs.marks.Given as goal
+
+abbrev pub invariant-loop-left : goal.invariant-loop-left
+invariant-loop-left l = marks l.s l.n l.at ≡ marks l.s l.left l.p
+
+abbrev pub decreases-loop-left : goal.decreases-loop-left
+decreases-loop-left l = l.left
