@@ -1,7 +1,9 @@
 // Standard input, read into a lent buffer.
-ghost use Rattle.programs_input.specs.Input.{Within};
+#![tactic(auto)]
 
-use libc::STDIN_FILENO;
+ghost use Rattle.programs_input.specs.Input.{Took, Within};
+
+use std::io::Read;
 
 // What came of standard input: a number of bytes, or a read that failed.
 #[derive(Drop)]
@@ -10,22 +12,19 @@ pub enum Input {
     Failed,
 }
 
-// How many bytes of standard input stand at the front of `buf`, which is then full or has the whole input; or that a
-// read failed.
-pub fn fill(buf: &mut [u8]) -> Input
-    ensures { Within result buf.new }
+// How many bytes of the input stand at the front of `buf`, which is then full or has the whole input; or that a read
+// failed. The input is standard input, as `rt.stdin()`, or another reader.
+pub fn fill<R: Read>(input: &mut R, buf: &mut [u8]) -> Input
+    ensures within { Within result buf.new }
+    ensures bytes { Took (R.remaining input.old) (R.remaining input.new) result buf.new }
 {
     let mut at = 0;
     while at < buf.len() {
-        let got = libc::read(STDIN_FILENO, &mut buf[at..]);
-        if got < 0 {
-            return Input::Failed;
+        match input.read(&mut buf[at..]) {
+            Ok(0) => break,
+            Ok(more) => at += more,
+            Err(_) => return Input::Failed,
         }
-        let more = io::count(got, &buf[at..]);
-        if more == 0 {
-            break;
-        }
-        at += more;
     }
     Input::Bytes(at)
 }

@@ -2,6 +2,8 @@
 //
 // Each call answers the place where the next piece goes. A piece that does not fit leaves the place past the buffer,
 // and so does each piece after it, so that one test at the end tells whether the whole text is there.
+#![tactic(auto)]
+
 ghost use Rattle.std.specs.Prelude.{◌≡◌};
 ghost use Rattle.programs_pieces.specs.Put.{place_after, with_text};
 ghost use Rattle.programs_pieces.specs.Decimal.{decimal};
