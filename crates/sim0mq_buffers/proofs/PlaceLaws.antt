@@ -1,12 +1,12 @@
 -- A text that has room is placed, whole or as its one byte, and zeros are; where there is no room nothing changes.
-use Prim.Native.Nat.{ℕ, suc, ◌+◌, ◌-◌, ◌<◌, ◌≤◌}
+use Prim.Native.Nat.{ℕ, suc, ◌+◌, ◌<◌, ◌≤◌}
 use mathlib.Core.Path.{◌≡◌, refl, ap, ap₂, sym, ◌∙◌}
-use mathlib.Core.List.{List, [], ◌∷◌, ◌++◌, append-nil, append_assoc}
+use mathlib.Core.List.{List, [], ◌∷◌, ◌++◌, append_assoc}
 use native.Mathlib.Omega.{arith}
-use lib.ListN.{length, get_or, take, drop, set, replicate, length-drop, drop_of_length-le}
-use lib.Seq.{take_all, take-length, take_at, drop-drop, set_split, sets, sets-eq}
+use lib.ListN.{length, get_or, take, drop, set, replicate}
+use lib.Seq.{take_at, drop-drop, set_split, sets, sets-eq}
 use borrow.Author.Tests.{le-leb, lt-leb}
-use borrow.Rule.Slice.PartMut.{mid_of, put_mid}
+use borrow.Rule.Slice.PartMut.{put_mid}
 use Rattle.sim0mq.specs.Table.{placed}
 use Rattle.sim0mq.specs.Blank.{zeroed}
 use Rattle.sim0mq_buffers.specs.Placing.{put_in, cleared_in}
@@ -25,18 +25,11 @@ module _ (out : List ℕ) (at : ℕ) where
   placed_single (x ∷ []) e h = placed_byte x h
   placed_single (x ∷ (y ∷ l)) e h = absurd (omega arith)
 
-  -- a text copied to the front of the part from `at` on
-  pub placed_part : (text part : List ℕ) → at + length text ≤ length out
-      → part ≡ take (length text) text ++ drop (length text) (mid_of at (length out - at) out)
-      → put_mid at (length out - at) out part ≡ placed out at text
+  -- a text copied to the part of its length from `at` on
+  pub placed_part : (text part : List ℕ) (k : ℕ) → part ≡ text → at + k ≡ at + length text → put_mid at k out part ≡ placed out at text
   unfolding placed
-  placed_part text part h e =
-      let k = length out - at in
-      let mid : mid_of at k out ≡ drop at out = take_all k (drop at out) (omega (arith, length-drop at out)) in
-      let past : drop k (drop at out) ≡ [] = drop_of_length-le (drop at out) {i = k} (omega (arith, length-drop at out)) in
-      let is : part ≡ text ++ drop (at + length text) out
-      = e ∙ ap₂ (λ (a b : List ℕ). a ++ b) (take-length text) (ap (drop (length text)) mid ∙ drop-drop (length text) at out) in
-      ap₂ (λ (a b : List ℕ). take at out ++ (a ++ b)) is past ∙ ap (λ (l : List ℕ). take at out ++ l) (append-nil (text ++ drop (at + length text) out))
+  placed_part text part k e n =
+      ap₂ (λ (a b : List ℕ). take at out ++ (a ++ b)) e (drop-drop k at out ∙ ap (λ (m : ℕ). drop m out) n)
 
   -- a text that has room is placed, and one that has not changes nothing
   pub put_fits : (text : List ℕ) → at + length text ≤ length out → put_in out at text ≡ placed out at text

@@ -19,7 +19,7 @@ pub fn put(text: &[u8], out: &mut [u8], at: usize)
         out[at] = text[0];
         return;
     }
-    bytes::copy(text, &mut out[at..]);
+    out[at..at + text.len()].copy_from_slice(text);
 }
 
 // Zero in the eight bytes of `out` from `at` on, as a double or a long has them.
