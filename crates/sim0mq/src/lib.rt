@@ -1,5 +1,7 @@
 // The Sim0MQ format. What it is stands in specs/, what is promised of it is proved in proofs/; here are the types that
 // every answer uses.
+#![tactic(auto)]
+
 ghost use Rattle.std.specs.Prelude.{◌≡◌};
 ghost use Rattle.sim0mq.specs.Answer.{refused};
 ghost use Rattle.sim0mq.specs.Views.{judged};

@@ -1,4 +1,6 @@
 // Numbers in bytes.
+#![tactic(auto)]
+
 ghost use Rattle.std.specs.Prelude.{◌≡◌, ◌<◌, ◌^◌};
 ghost use Rattle.sim0mq.specs.Field.{count as count_of};
 ghost use Rattle.sim0mq.specs.Views.{judged};

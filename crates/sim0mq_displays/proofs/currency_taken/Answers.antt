@@ -3,7 +3,6 @@ use Prim.Native.Nat.{◌%◌}
 use mathlib.Core.Path.{ap, ◌∙◌}
 use native.Mathlib.Omega.{arith}
 use native.Mathlib.Nat.{div-add-mod'}
-use borrow.Author.Rules.{rules}
 use Rattle.sim0mq.specs.Mark.{currency_taken}
 use Rattle.sim0mq_tables.specs.Bits.{bit}
 use Rattle.sim0mq_displays.proofs.currency_taken.Goals as goal

@@ -1,7 +1,6 @@
 -- A display code is taken up to the last one of its unit type, which the row of the definition has.
 use Prim.Native.Nat.{ℕ}
 use mathlib.Core.Path.{ap₂}
-use borrow.Author.Rules.{rules}
 use lib.Dec.{leb}
 use Rattle.sim0mq.specs.Mark.{display_taken}
 use Rattle.sim0mq_displays.proofs.display_taken.Goals as goal

@@ -1,6 +1,5 @@
 -- Each return is a case of the definition; the two bytes that are there write the number that is tested.
 use native.Mathlib.Omega.{arith}
-use borrow.Author.Rules.{rules}
 use mathlib.Core.Path.{sym, ◌∙◌}
 use Rattle.sim0mq_marks.proofs.MarkCases.{currency_told, currency_short, currency_over, currency_fine}
 use Rattle.sim0mq_marks.proofs.currency.Goals as goal

@@ -1,6 +1,5 @@
 -- Each return is a case of the definition.
 use native.Mathlib.Omega.{arith}
-use borrow.Author.Rules.{rules}
 use borrow.Author.Tests.{le-leb, lt-leb}
 use mathlib.Core.Path.{sym, ◌∙◌}
 use Rattle.sim0mq_marks.proofs.MarkCases.{display_short, display_over, display_fine}

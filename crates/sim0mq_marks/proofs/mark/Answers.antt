@@ -1,5 +1,4 @@
 -- By the format's own row, a mark is the format's.
-use borrow.Author.Rules.{rules}
 use mathlib.Core.Path.{◌∙◌}
 use Rattle.sim0mq_marks.proofs.ByLaws.{mark_by_last}
 use Rattle.sim0mq_marks.proofs.mark.Goals as goal

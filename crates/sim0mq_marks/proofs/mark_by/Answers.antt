@@ -1,6 +1,5 @@
 -- Without a byte it is refused; the two ways, with room for the longest mark and with less, answer the same definition.
 use native.Mathlib.Omega.{arith}
-use borrow.Author.Rules.{rules}
 use mathlib.Core.Path.{sym, ◌∙◌}
 use Rattle.sim0mq_marks.proofs.MarkCases.{mark_short}
 use Rattle.sim0mq_marks.proofs.mark_by.Goals as goal

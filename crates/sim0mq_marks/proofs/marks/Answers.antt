@@ -1,8 +1,6 @@
 -- What is left to judge from here on answers for the whole; each turn judges one mark.
 use native.Mathlib.Omega.{arith}
-use borrow.Author.Rules.{rules}
-use mathlib.Core.Path.{◌≡◌, refl, sym, ap, ◌∙◌}
-use Rattle.sim0mq.specs.Mark.{marks}
+use mathlib.Core.Path.{refl, sym, ap, ◌∙◌}
 use Rattle.sim0mq.specs.Views.{judged}
 use Rattle.sim0mq_marks.proofs.MarkCases.{marks_done, marks_more, marks_stop}
 use Rattle.sim0mq_marks.proofs.marks.Goals as goal

@@ -1,10 +1,6 @@
 -- What is left to judge from here on answers for the whole; each turn judges one mark.
-use native.Mathlib.Omega.{arith}
-use borrow.Author.Rules.{rules}
-use mathlib.Core.Path.{◌≡◌, refl, sym, ap, ◌∙◌}
+use mathlib.Core.Path.{◌≡◌}
 use Rattle.sim0mq.specs.Mark.{marks}
-use Rattle.sim0mq.specs.Views.{judged}
-use Rattle.sim0mq_marks.proofs.MarkCases.{marks_done, marks_more, marks_stop}
 use Rattle.sim0mq_marks.proofs.marks.Given as goal
 
 abbrev pub invariant-loop-left : goal.invariant-loop-left

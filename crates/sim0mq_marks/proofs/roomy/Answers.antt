@@ -1,8 +1,7 @@
 -- Each return is a case of the definition, told by the unit type's kind; no item's room is asked for again.
 use Prim.Native.Nat.{ℕ, ◌-◌, ◌<◌}
 use native.Mathlib.Omega.{arith}
-use borrow.Author.Rules.{rules}
-use borrow.Author.Tests.{not-true, not-false, le-leb, lt-leb}
+use borrow.Author.Tests.{le-leb, lt-leb}
 use mathlib.Core.Path.{sym, ◌∙◌, subst}
 use Rattle.sim0mq_marks.proofs.MarkCases.{currency_told, per_known, mark_between, mark_above}
 use Rattle.sim0mq_marks.proofs.MarkCases.{roomy_plain, roomy_plain_over, roomy_currency_over, roomy_money, roomy_per, roomy_per_over}

@@ -1,5 +1,4 @@
 -- Each return is a case of the definition.
-use borrow.Author.Rules.{rules}
 use Rattle.sim0mq_numbers.proofs.NumberCases.{below_refused, count_short, count_negative, count_fine}
 use native.Mathlib.Omega.{arith}
 use mathlib.Core.Path.{sym, ◌∙◌}

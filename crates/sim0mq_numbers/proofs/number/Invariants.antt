@@ -1,14 +1,8 @@
 -- What is read so far is the number of the bytes so far, and has no more bytes than they.
-use borrow.Author.Rules.{rules}
-use Prim.Native.Nat.{◌*◌, ℕ, ◌+◌, ◌-◌, ◌^◌, ◌<◌, ◌≤◌}
-use mathlib.Core.Path.{ap₂, subst, ◌≡◌, refl, sym, ◌∙◌, ap}
-use native.Mathlib.Nat.{pow-suc, pow-le-pow_right, one-le-pow, lt_of_lt_of_le}
-use native.Mathlib.Omega.{arith}
-use native.Mathlib.Numerals.{add-one}
-use lib.Dec.{lit<}
+use Prim.Native.Nat.{◌+◌, ◌-◌, ◌^◌, ◌<◌, ◌≤◌}
+use mathlib.Core.Path.{◌≡◌}
 use lib.ListN.{length}
 use Rattle.sim0mq.specs.Answer.{big}
-use Rattle.sim0mq_numbers.proofs.NumberCases.{number_there, number_short, number_long, number_more}
 use Rattle.sim0mq_numbers.proofs.number.Given as goal
 
 abbrev pub invariant-loop-i : goal.invariant-loop-i

@@ -1,6 +1,5 @@
 -- Where the top bit of the 8 is set, the number is one less than the negated complement of its bits, and no step of
 -- that leaves its width.
-use borrow.Author.Rules.{rules}
 use Prim.Native.Nat.{◌-◌}
 use mathlib.Core.Path.{sym, ap, ◌∙◌}
 use native.Mathlib.Omega.{arith}

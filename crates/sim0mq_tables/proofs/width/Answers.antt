@@ -2,7 +2,6 @@
 -- bytes.
 use mathlib.Core.Path.{refl, sym, ◌∙◌}
 use native.Mathlib.Omega.{arith}
-use borrow.Author.Rules.{rules}
 use Rattle.sim0mq.specs.Codes.{width_row, width_of}
 use Rattle.sim0mq_tables.specs.Bits.{bit}
 use Rattle.sim0mq.proofs.Rows.{all_below}
