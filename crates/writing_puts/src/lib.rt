@@ -1,4 +1,6 @@
 // Numbers put into a buffer, and the bits that a signed number is put as.
+#![tactic(auto)]
+
 ghost use Rattle.std.specs.Prelude.{◌≡◌};
 ghost use Rattle.sim0mq_numbers.specs.Bytes.{big_bytes};
 ghost use Rattle.sim0mq_buffers.specs.Placing.{put_in};
