@@ -1,4 +1,6 @@
 // The head of a payload field: its code and its counts, with what they ask for.
+#![tactic(auto)]
+
 ghost use Rattle.std.specs.Prelude.{◌≡◌, ◌*◌, ◌<◌, ◌≤◌};
 ghost use Rattle.sim0mq.specs.Field.{mark_count, head as head_of};
 ghost use Rattle.reading_heads.specs.Heads.{headed, asked_for};
