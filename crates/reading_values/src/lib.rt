@@ -1,4 +1,6 @@
 // The values of a payload field: the number of their bytes, and the place after them.
+#![tactic(auto)]
+
 ghost use Rattle.std.specs.Prelude.{◌≡◌, ◌+◌, ◌*◌, ◌<◌, ◌≤◌, length, leb};
 ghost use Rattle.sim0mq.specs.Codes.{boolean as boolean_of};
 ghost use Rattle.sim0mq.specs.Views.{judged};

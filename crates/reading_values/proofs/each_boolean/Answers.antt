@@ -1,0 +1,21 @@
+-- What is left to judge from here on answers for the whole; each turn judges one byte.
+use borrow.Author.Rules.{rules}
+use native.Mathlib.Omega.{arith}
+use Prim.Native.Nat.{◌+◌, ◌≤◌}
+use mathlib.Core.Path.{◌≡◌, refl, sym, ◌∙◌}
+use lib.ListN.{length}
+use Rattle.reading_values.specs.Values.{booleans_end}
+use Rattle.reading_values.proofs.ValueCases.{booleans_done, booleans_more, booleans_stop}
+use Rattle.reading_values.proofs.each_boolean.Goals as goal
+
+pub loop-left-init : goal.loop-left-init
+loop-left-init c = (refl, omega arith)
+
+pub returns-then-s-p-gt1 : goal.returns-then-s-p-gt1
+returns-then-s-p-gt1 c = c.refuse.ensures ∙ sym (c.loop-left.invariant.0 ∙ booleans_stop _ _ _ (omega arith) c.if-s-p-gt1.true)
+
+pub loop-left-preserved : goal.loop-left-preserved
+loop-left-preserved c = (c.loop-left.invariant.0 ∙ booleans_more _ _ _ _ (omega arith) (omega arith), omega arith)
+
+pub returns : goal.returns
+returns c = sym (c.loop-left.invariant.0 ∙ booleans_done _ _ _ (omega arith))
