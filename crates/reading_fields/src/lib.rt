@@ -1,4 +1,6 @@
 // A payload field, in outline.
+#![tactic(auto)]
+
 ghost use Rattle.std.specs.Prelude.{◌≡◌};
 ghost use Rattle.sim0mq.specs.Field.{outline as outline_of};
 ghost use Rattle.reading_fields.specs.Items.{fielded};
