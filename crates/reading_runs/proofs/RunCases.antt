@@ -1,7 +1,7 @@
 -- How runs of fields are told, case by case, in the words of the code's tests.
 use Prim.Native.Nat.{ℕ, zero, suc, ◌+◌, ◌-◌, ◌*◌, ◌≤◌, ◌<◌}
 use mathlib.Core.Path.{◌≡◌, refl, sym, ap, ◌∙◌}
-use mathlib.Core.Bool.{Bool, true, false, cond, ◌||◌, or_false, false≢true}
+use mathlib.Core.Bool.{Bool, true, false, cond, ◌||◌, or-false, false≢true}
 use mathlib.Core.List.{List}
 use native.Mathlib.Omega.{arith}
 use native.Mathlib.Numerals.{add-one}
@@ -102,7 +102,7 @@ pub size_none : (c w : ℕ) → w ≡ plain_size c → (w ≡ 1 → ⊥) → (w 
 unfolding is_size
 size_none c w q n1 n2 n4 n8 =
     let e : is_size w ≡ true = ap is_size q ∙ size_any c in
-    sym q ∙ eqb-true w 0 (simp (ne_eqb w 1 n1, ne_eqb w 2 n2, ne_eqb w 4 n4, ne_eqb w 8 n8, or_false (eqb w 0)) at e)
+    sym q ∙ eqb-true w 0 (simp (ne_eqb w 1 n1, ne_eqb w 2 n2, ne_eqb w 4 n4, ne_eqb w 8 n8, or-false (eqb w 0)) at e)
 
 -- the run at a place: none asked for, none there, of no size, or of fields of the size of their code
 module _ (s : List ℕ) (at n : ℕ) where

@@ -1,4 +1,6 @@
 // Fields that are alike, which are judged together: of one code, each one value of any bytes, one after the other.
+#![tactic(auto)]
+
 ghost use Rattle.std.specs.Prelude.{◌≡◌, ◌<◌, ◌≤◌, length};
 ghost use Rattle.reading_runs.specs.Runs.{plain_size, stands_at, alike, run_of, run_at};
 
