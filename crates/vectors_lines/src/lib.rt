@@ -1,4 +1,6 @@
 // The words and the numbers of a line of a case file.
+#![tactic(auto)]
+
 ghost use Rattle.std.specs.Prelude.{◌≡◌, true, ◌-◌, ◌≤◌, ◌<◌, max, length};
 
 pub mod wholes;

@@ -1,0 +1,23 @@
+-- vectors_lines::wholes::short_of meets its contract: -1 less a number that is not negative fits, since the number
+-- does.
+use Prim.Native.Nat.{◌<◌, ◌≤◌}
+use mathlib.Core.Path.{refl}
+use native.Mathlib.Omega.{arith}
+use mir.Syntax.{w16}
+use mir.ValLaws.{to_z_pos}
+use Rattle.sim0mq_signed.proofs.Signed.{flip_fits, flip_back}
+use Rattle.vectors_lines.proofs.wholes.short_of.Goals as goal
+
+pub returns-then-n-gt32767 : goal.returns-then-n-gt32767
+returns-then-n-gt32767 c = ((λ _. refl), (λ (h : c.args.n ≤ 32767). absurd (omega arith)))
+
+pub overflow_sub-result : goal.overflow_sub-result
+overflow_sub-result c = flip_fits w16 c.args.n (omega arith)
+
+pub returns-then-below : goal.returns-then-below
+returns-then-below c =
+    ((λ (h : 32767 < c.args.n). absurd (omega arith)), (λ _. rw c.if-below.true (flip_back w16 c.args.n (omega arith))))
+
+pub returns-else-below : goal.returns-else-below
+returns-else-below c =
+    ((λ (h : 32767 < c.args.n). absurd (omega arith)), (λ _. rw c.if-below.false (to_z_pos w16 c.args.n (omega arith))))
