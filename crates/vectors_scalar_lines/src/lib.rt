@@ -1,5 +1,7 @@
 // The scalar that a line tells: its kind and its number, as the text of what asking answers has them. A float and a
 // double are told by their bits.
+#![tactic(auto)]
+
 ghost use Rattle.std.specs.Prelude.{◌≡◌, ◌<◌, length};
 ghost use Rattle.vectors_scalar_lines.specs.declared.Told.TheVariants.{Lost};
 
