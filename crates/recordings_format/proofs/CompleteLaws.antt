@@ -46,16 +46,16 @@ trailer_complete : (s : List ℕ) (at : ℕ) (e : Edition) (place n : ℕ) → R
 unfolding trailer_from most_messages
 trailer_complete s at e place n r fits few st q =
     let second = big_bytes 4 n ++ big_bytes 2 e.number in
-    let fromCount : Stands s (at + 4) second
+    let from_count : Stands s (at + 4) second
     = stands_to (at + 4) (omega (arith, big_length 4 place)) (stands_right (big_bytes 4 place) second st) in
-    let fromNumber : Stands s (at + 8) (big_bytes 2 e.number)
+    let from_number : Stands s (at + 8) (big_bytes 2 e.number)
     =
     stands_to (at + 8) (omega (arith, big_length 4 n))
-    (stands_right (big_bytes 4 n) (big_bytes 2 e.number) fromCount) in
+    (stands_right (big_bytes 4 n) (big_bytes 2 e.number) from_count) in
     let a : big s at 4 ≡ place = number_read 4 place fits (stands_left (big_bytes 4 place) second st) in
     let b : big s (at + 4) 4 ≡ n
-    = number_read 4 n (omega arith) (stands_left (big_bytes 4 n) (big_bytes 2 e.number) fromCount) in
-    let c : big s (at + 8) 2 ≡ e.number = number_read 2 e.number r.numbered fromNumber in
+    = number_read 4 n (omega arith) (stands_left (big_bytes 4 n) (big_bytes 2 e.number) from_count) in
+    let c : big s (at + 8) 2 ≡ e.number = number_read 2 e.number r.numbered from_number in
     simp (a, b, c, r.found, le-leb n most_messages few, eq-eqb (place + entry_size e * n) at q)
 
 stretches_complete : (s : List ℕ) (at : ℕ) (most : ℕ) (ms : List (List ℕ)) → Each (Taken most) ms → Stands s at (joined ms)

@@ -112,12 +112,12 @@ field_complete {s} {at} f i st =
     let cs = joined f.counts in
     let ms = joined f.marks in
     let fits = st.fits in
-    let fromCounts : Stands s (at + 1) (cs ++ (ms ++ f.values)) = stands_tail st in
-    let fromMarks : Stands s (at + 1 + length cs) (ms ++ f.values) = stands_right cs (ms ++ f.values) fromCounts in
-    let counted = counts_complete f.counts (rw i.counted (two_counts f.code)) i.is_counts (stands_left cs (ms ++ f.values) fromCounts) in
+    let from_counts : Stands s (at + 1) (cs ++ (ms ++ f.values)) = stands_tail st in
+    let from_marks : Stands s (at + 1 + length cs) (ms ++ f.values) = stands_right cs (ms ++ f.values) from_counts in
+    let counted = counts_complete f.counts (rw i.counted (two_counts f.code)) i.is_counts (stands_left cs (ms ++ f.values) from_counts) in
     let first = at + 1 + length cs + length ms in
-    let fromValues : Stands s first f.values = stands_right ms f.values fromMarks in
-    let room = fromValues.fits in
+    let from_values : Stands s first f.values = stands_right ms f.values from_marks in
+    let room = from_values.fits in
     let asked : mark_count (marking_of f.code) (columns_asked f.counts) ≡ length f.marks
     = marks_asked_lem (marking_of f.code) f.counts ∙ sym i.marked in
     simp (
@@ -127,10 +127,10 @@ field_complete {s} {at} f i st =
       ← i.counted,
       counted,
       asked,
-      marks_complete f.marks i.is_marks (stands_left ms f.values fromMarks),
+      marks_complete f.marks i.is_marks (stands_left ms f.values from_marks),
       ← i.sized,
       le-leb (first + length f.values) (length s) room,
-      values_complete s first f i fromValues,
+      values_complete s first f i from_values,
     )
 
 -- whatever is taken is a field
@@ -250,7 +250,7 @@ rest_sound s at c x cs code known counted is_counts there judged q =
     let v = needed_bind s first size _ m.2 in
     let z = stands_part s first size v.0 in
     let vs = part s first size in
-    let fromMarks : Stands s (at + 1 + length (joined cs)) (ms ++ vs)
+    let from_marks : Stands s (at + 1 + length (joined cs)) (ms ++ vs)
     = stands_join ms vs y.there (stands_to (h.next + length ms) e z.1) in
     let bools : Judged s (field_of at h first) = subst (λ (w : Field). Judged s w) (sym (fine_eq v.1)) judged in
     record {
@@ -265,7 +265,7 @@ rest_sound s at c x cs code known counted is_counts there judged q =
             sized = z.0;
             is_boolean = λ t i k. rw (← (z.1.same i k)) (bools i (boolean_judged c size i t (let l = z.0 in omega arith)));
           };
-      there = stands_cons code (stands_join (joined cs) (ms ++ vs) there fromMarks);
+      there = stands_cons code (stands_join (joined cs) (ms ++ vs) there from_marks);
       says = sym (fine_eq v.1) ∙ field_eq e (sym z.0) (sym y.many);
     }
 

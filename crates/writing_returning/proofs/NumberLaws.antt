@@ -43,7 +43,7 @@ marked_parts c ms n x = record { code = c; counts = []; marks = ms; values = big
 pub marked_is : (c : ℕ) (ms : List (List ℕ)) (n x : ℕ) → code_known c ≡ true → counts_of c ≡ 0 → length ms ≡ marks_asked (marking_of c) []
     → Each IsMark ms → width_of c ≡ n → boolean c ≡ false → IsField (marked_parts c ms n x)
 unfolding values_asked
-marked_is c ms n x known counted marked is_marks width notBoolean =
+marked_is c ms n x known counted marked is_marks width not_boolean =
     record {
       known = known;
       counted = sym counted;
@@ -51,7 +51,7 @@ marked_is c ms n x known counted marked is_marks width notBoolean =
       marked = marked;
       is_marks = is_marks;
       sized = big_length n x ∙ omega arith;
-      is_boolean = λ b i h. absurd (false≢true (sym notBoolean ∙ b));
+      is_boolean = λ b i h. absurd (false≢true (sym not_boolean ∙ b));
     }
 
 -- a field that is one number
@@ -61,5 +61,5 @@ number_parts c n x = marked_parts c [] n x
 -- the manual allows it
 pub number_is : (c n x : ℕ) → code_known c ≡ true → counts_of c ≡ 0 → marking_of c ≡ 0 → width_of c ≡ n → boolean c ≡ false → IsField (number_parts c n x)
 unfolding marks_asked
-number_is c n x known counted marking width notBoolean =
-    marked_is c [] n x known counted (sym (ap (λ (k : ℕ). marks_asked k []) marking)) none width notBoolean
+number_is c n x known counted marking width not_boolean =
+    marked_is c [] n x known counted (sym (ap (λ (k : ℕ). marks_asked k []) marking)) none width not_boolean
