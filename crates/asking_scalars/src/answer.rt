@@ -2,7 +2,7 @@
 use sim0mq::Refusal;
 use sim0mq_kinds::Scalar;
 
-#[derive(Drop)]
+#[derive(Clone, Copy)]
 pub enum Value {
     Is(Scalar),
     Refused(Refusal),

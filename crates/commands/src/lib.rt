@@ -15,7 +15,7 @@ use sim0mq::{CHANGE, FIELDS, Judged, NEW, ROW, Refusal, refuse};
 use sim0mq_numbers::{wide, wide32};
 
 // The commands of the manual's chapter 4, in its order.
-#[derive(Drop)]
+#[derive(Clone, Copy)]
 pub enum Name {
     StartFederate,
     StarterRequestStatus,
@@ -38,7 +38,7 @@ pub enum Name {
 }
 
 // Which command a message is; or the refusal.
-#[derive(Drop)]
+#[derive(Clone, Copy)]
 pub enum Commanded {
     Is(Name),
     Refused(Refusal),

@@ -19,7 +19,7 @@ use sim0mq::{Judged, Refusal};
 
 // What mustering answers, the sender's place in the book or the refusal, and the ledger and the book that it hands
 // back.
-#[derive(Drop)]
+#[derive(Clone, Copy)]
 pub struct Mustered {
     pub said: Judged,
     pub ledger: Ledger,

@@ -8,13 +8,13 @@ pub const DECKS: usize = 16;
 pub const DECK_HEADS: u16 = 65535;
 
 // The ledger, how many heads are on each deck: a small value that each call takes and hands back.
-#[derive(Drop)]
+#[derive(Clone, Copy)]
 pub struct Ledger {
     pub heads: [u16; DECKS],
 }
 
 // What a muster message does: a head joins a deck; joins a deck and leaves another; leaves a deck.
-#[derive(Drop)]
+#[derive(Clone, Copy)]
 pub enum Deed {
     Joins(usize),
     Moves(usize, usize),

@@ -12,7 +12,7 @@ use sim0mq::{CHANGE, NEW, Refusal};
 use sim0mq_numbers::number;
 
 // What the ledger says to a message: what it does; or the refusal.
-#[derive(Drop)]
+#[derive(Clone, Copy)]
 pub enum Ordered {
     Granted(Deed),
     Refused(Refusal),

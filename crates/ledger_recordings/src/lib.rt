@@ -18,7 +18,7 @@ use sim0mq_numbers::number;
 
 // What a recording comes to: how many messages were applied, or the refusal of opening it; how many were refused and
 // passed over; and the ledger after them, which is empty where the recording does not open.
-#[derive(Drop)]
+#[derive(Clone, Copy)]
 pub struct Reckoned {
     pub said: Judged,
     pub refused: usize,
@@ -27,7 +27,7 @@ pub struct Reckoned {
 
 // What came of a message: 1 where it was applied, 0 where it was passed over, or the refusal by which the recording
 // does not open; with ledger and book after it.
-#[derive(Drop)]
+#[derive(Clone, Copy)]
 struct Turn {
     said: Judged,
     ledger: Ledger,

@@ -6,7 +6,7 @@ ghost use Rattle.programs_input.specs.Input.{Took, Within};
 use std::io::Read;
 
 // What came of standard input: a number of bytes, or a read that failed.
-#[derive(Drop)]
+#[derive(Clone, Copy)]
 pub enum Input {
     Bytes(usize),
     Failed,

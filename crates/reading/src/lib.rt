@@ -15,21 +15,21 @@ use reading_payload::{FEW, payload};
 use sim0mq::{FIELDS, Judged, ROW, Refusal};
 
 // What reading finds in an accepted message: its length, its field count and its steps.
-#[derive(Drop)]
+#[derive(Clone, Copy)]
 pub struct Found {
     pub length: usize,
     pub fields: usize,
     pub steps: usize,
 }
 
-#[derive(Drop)]
+#[derive(Clone, Copy)]
 pub enum Reading {
     Accepted(Found),
     Refused(Refusal),
 }
 
 // What reading answers, with the eight frames beside it: on a refusal all of them have place and code 0.
-#[derive(Drop)]
+#[derive(Clone, Copy)]
 pub struct Answer {
     pub said: Reading,
     pub frames: [Frame; 8],

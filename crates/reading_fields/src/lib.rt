@@ -12,7 +12,7 @@ use sim0mq_marks::marks;
 
 // What is known of a field: its code, the places of its code byte and of its first value byte, the number of its value
 // bytes, of its marks and of its values.
-#[derive(Drop)]
+#[derive(Clone, Copy)]
 pub struct Field {
     pub code: usize,
     pub place: usize,
@@ -22,7 +22,7 @@ pub struct Field {
     pub values: usize,
 }
 
-#[derive(Drop)]
+#[derive(Clone, Copy)]
 pub enum Fielded {
     Accepted(Field),
     Refused(Refusal),

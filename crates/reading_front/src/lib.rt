@@ -10,7 +10,7 @@ use reading_header::{Frame, Said, header};
 use sim0mq::{LIMIT, ROW, Refusal};
 
 // What is lent beside the message: no table, or a table of so many numbers.
-#[derive(Drop)]
+#[derive(Clone, Copy)]
 pub enum Lent {
     NoTable,
     Table(usize),

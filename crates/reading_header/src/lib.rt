@@ -10,27 +10,27 @@ use sim0mq::{DELETE, FIELDS, Judged, NEW, Refusal};
 use sim0mq_numbers::number;
 
 // A frame's place, which is that of its first byte, and its type code.
-#[derive(Drop)]
+#[derive(Clone, Copy)]
 pub struct Frame {
     pub place: usize,
     pub code: usize,
 }
 
 // The declared number of fields, and the place after the header.
-#[derive(Drop)]
+#[derive(Clone, Copy)]
 pub struct End {
     pub fields: usize,
     pub next: usize,
 }
 
-#[derive(Drop)]
+#[derive(Clone, Copy)]
 pub enum Said {
     Accepted(End),
     Refused(Refusal),
 }
 
 // What the header says, and the frames beside it: on a refusal they are those that went in.
-#[derive(Drop)]
+#[derive(Clone, Copy)]
 pub struct Answer {
     pub said: Said,
     pub frames: [Frame; 8],
@@ -105,13 +105,13 @@ fn status(s: &[u8], at: usize) -> Fielded
 }
 
 // The declared number of fields, with its frame.
-#[derive(Drop)]
+#[derive(Clone, Copy)]
 struct Count {
     field: Field,
     number: usize,
 }
 
-#[derive(Drop)]
+#[derive(Clone, Copy)]
 enum Counted {
     Accepted(Count),
     Refused(Refusal),

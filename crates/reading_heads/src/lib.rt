@@ -10,7 +10,7 @@ use sim0mq_numbers::{count, wide};
 use sim0mq_tables::{counts, marking};
 
 // A field's code and counts, with the values and the marks that they ask for; and the place after them.
-#[derive(Drop)]
+#[derive(Clone, Copy)]
 pub struct Asked {
     pub code: usize,
     pub values: usize,
@@ -18,7 +18,7 @@ pub struct Asked {
     pub next: usize,
 }
 
-#[derive(Drop)]
+#[derive(Clone, Copy)]
 pub enum Headed {
     Accepted(Asked),
     Refused(Refusal),

@@ -8,7 +8,7 @@ use sim0mq_numbers::wide;
 
 // Fields of one code that follow one another, each one value of `size` bytes with no count and no mark: how many there
 // are, and the place after them.
-#[derive(Drop)]
+#[derive(Clone, Copy)]
 pub struct Run {
     pub code: usize,
     pub size: usize,

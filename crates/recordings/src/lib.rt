@@ -15,14 +15,14 @@ use sim0mq_numbers::number;
 pub const PLACE: usize = 2;
 
 // Where a message stands.
-#[derive(Drop)]
+#[derive(Clone, Copy)]
 pub struct Placed {
     pub start: usize,
     pub length: usize,
 }
 
 // What asking answers.
-#[derive(Drop)]
+#[derive(Clone, Copy)]
 pub enum Asked {
     At(Placed),
     Refused(Refusal),

@@ -40,7 +40,7 @@ pub fn front_length(rest: &[u8]) -> Judged
 
 // Why no further message was taken: the bytes end; bytes are left, and as many messages as may be were taken; or no
 // message is at the front of the rest, by this refusal, its place counted in the whole.
-#[derive(Drop)]
+#[derive(Clone, Copy)]
 pub enum Stop {
     AtEnd,
     AtMost,
@@ -48,7 +48,7 @@ pub enum Stop {
 }
 
 // How many messages were found, the place after them, and why they are no more.
-#[derive(Drop)]
+#[derive(Clone, Copy)]
 pub struct Divided {
     pub count: usize,
     pub end: usize,

@@ -10,14 +10,14 @@ use sim0mq::LIMIT;
 use sim0mq_numbers::number;
 
 // An edition: its number, the bytes of a length in its index, and the most bytes of a message.
-#[derive(Drop)]
+#[derive(Clone, Copy)]
 pub struct Edition {
     pub number: usize,
     pub wide: usize,
     pub most: usize,
 }
 
-#[derive(Drop)]
+#[derive(Clone, Copy)]
 pub enum Known {
     Row(Edition),
     Unknown,
@@ -45,14 +45,14 @@ fn row_of(n: usize) -> Known
 }
 
 // What the trailer says: the edition, the place of the first entry, and the number of entries.
-#[derive(Drop)]
+#[derive(Clone, Copy)]
 pub struct Trailer {
     pub edition: Edition,
     pub place: usize,
     pub entries: usize,
 }
 
-#[derive(Drop)]
+#[derive(Clone, Copy)]
 pub enum Trailed {
     Found(Trailer),
     Wrong,
@@ -114,7 +114,7 @@ fn tiles(s: &[u8], w: usize, from: usize, entries: usize, end: usize) -> bool
 
 // What came of the last bytes of a file: what its trailer says; that trailer or index is wrong; or how many of its last
 // bytes are wanted.
-#[derive(Drop)]
+#[derive(Clone, Copy)]
 pub enum Reached {
     Found(Trailer),
     Wrong,

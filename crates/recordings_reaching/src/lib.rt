@@ -11,7 +11,7 @@ use sim0mq_numbers::number;
 
 // What asking by the last bytes answers: where the message stands; how many of the file's last bytes are wanted, where
 // these do not reach the first entry; or the refusal.
-#[derive(Drop)]
+#[derive(Clone, Copy)]
 pub enum Reaching {
     At(Placed),
     Wanted(usize),

@@ -12,7 +12,7 @@ use sim0mq_buffers::put;
 
 // What is reported: the new recording's length, how many messages were kept, how many bytes dropped, and why it
 // stopped.
-#[derive(Drop)]
+#[derive(Clone, Copy)]
 pub struct Report {
     pub length: usize,
     pub kept: usize,
@@ -21,7 +21,7 @@ pub struct Report {
 }
 
 // What salvage answers.
-#[derive(Drop)]
+#[derive(Clone, Copy)]
 pub enum Salvaged {
     Saved(Report),
     Refused(Refusal),

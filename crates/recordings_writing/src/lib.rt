@@ -14,7 +14,7 @@ use sim0mq::{Judged, Refusal};
 use sim0mq_buffers::put;
 
 // The recorder's state: how many bytes and messages were written, and whether it is closed.
-#[derive(Drop)]
+#[derive(Clone, Copy)]
 pub struct Recorder {
     pub written: usize,
     pub messages: usize,
@@ -22,7 +22,7 @@ pub struct Recorder {
 }
 
 // What a call answers, the bytes written so far or the refusal, and the state that it hands back.
-#[derive(Drop)]
+#[derive(Clone, Copy)]
 pub struct Recorded {
     pub said: Judged,
     pub recorder: Recorder,

@@ -20,14 +20,14 @@ use sim0mq_numbers::number;
 use sim0mq_signed::i64_of;
 
 // What taking answers, the sender's place in the book or the refusal, and the book that it hands back.
-#[derive(Drop)]
+#[derive(Clone, Copy)]
 pub struct Taken {
     pub said: Judged,
     pub book: Book,
 }
 
 // Whether closing found the sender held, and the book that it hands back.
-#[derive(Drop)]
+#[derive(Clone, Copy)]
 pub struct Closed {
     pub held: bool,
     pub book: Book,

@@ -8,7 +8,7 @@ pub const ID_BYTES: usize = 32;
 pub const BOOK_PLACES: usize = 32;
 
 // A sender's id: its type code, how many value bytes it has, and these, with zero after them.
-#[derive(Drop)]
+#[derive(Clone, Copy)]
 pub struct Id {
     pub code: usize,
     pub length: usize,
@@ -16,7 +16,7 @@ pub struct Id {
 }
 
 // A place of the book: whether a sender is held there, the last number taken from it, and its id.
-#[derive(Drop)]
+#[derive(Clone, Copy)]
 pub struct Sender {
     pub held: bool,
     pub number: i64,
@@ -24,7 +24,7 @@ pub struct Sender {
 }
 
 // The book: a small value that each call takes and hands back.
-#[derive(Drop)]
+#[derive(Clone, Copy)]
 pub struct Book {
     pub senders: [Sender; BOOK_PLACES],
 }

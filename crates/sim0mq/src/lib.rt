@@ -24,7 +24,7 @@ pub const ROW: usize = 6;
 
 // A refusal: the place of the fault, and its number in document 01's list. The place stands first, where an accepted
 // answer has its number.
-#[derive(Drop)]
+#[derive(Clone, Copy)]
 pub struct Refusal {
     pub place: usize,
     pub number: u32,
@@ -32,7 +32,7 @@ pub struct Refusal {
 
 // What a judge says: accepted, with a number that the judge explains (a count, the place after an item, the steps); or
 // the refusal.
-#[derive(Drop)]
+#[derive(Clone, Copy)]
 pub enum Judged {
     Accepted(usize),
     Refused(Refusal),

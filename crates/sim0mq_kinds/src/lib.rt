@@ -5,7 +5,7 @@ ghost use Rattle.std.specs.Prelude.{◌≡◌};
 ghost use Rattle.sim0mq_kinds.specs.Kinds.{float_of, double_of, with_float, with_double};
 
 // A unit mark: unit type, currency code and display code, 0 where the mark has none.
-#[derive(Drop)]
+#[derive(Clone, Copy)]
 pub struct Mark {
     pub unit: u8,
     pub currency: u16,
@@ -14,7 +14,7 @@ pub struct Mark {
 
 // A scalar value: a signed number of its width, a float, a double, a Boolean, a character of 8 or 16 bits, a float or
 // double with its mark; or, where the bits are a NaN, that they are not a number, with the field's code.
-#[derive(Drop)]
+#[derive(Clone, Copy)]
 pub enum Scalar {
     Byte(i8),
     Short(i16),

@@ -15,14 +15,14 @@ use sums_quantities::shown::Shown;
 use writing_encoding::mark_taken;
 
 // What a scalar is read as: a quantity, or none.
-#[derive(Drop)]
+#[derive(Clone, Copy)]
 enum Known {
     Is(Quantity),
     None,
 }
 
 // What two scalars are read as: two quantities, or not.
-#[derive(Drop)]
+#[derive(Clone, Copy)]
 enum Both {
     Are(Quantity, Quantity),
     Neither,

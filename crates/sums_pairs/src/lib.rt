@@ -11,7 +11,7 @@ use sums_quantities::shown::Shown;
 use sums_quantities::temperatures::{AbsoluteTemperature, Temperature};
 
 // A quantity of one of the four pairs; or none, which can't be combined.
-#[derive(Drop)]
+#[derive(Clone, Copy)]
 pub enum Quantity {
     Length(Length),
     Position(Position),

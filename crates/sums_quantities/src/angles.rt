@@ -5,11 +5,11 @@ ghost use Rattle.sums_quantities.specs.Numbers.{plus as plus_of, less as less_of
 use crate::shown::{Shown, less, plus};
 
 // An angle, which is relative: unit type 3.
-#[derive(Drop)]
+#[derive(Clone, Copy)]
 pub struct Angle(pub Shown);
 
 // A direction, which is absolute: unit type 4.
-#[derive(Drop)]
+#[derive(Clone, Copy)]
 pub struct Direction(pub Shown);
 
 impl Angle {

@@ -5,11 +5,11 @@ ghost use Rattle.sums_quantities.specs.Numbers.{plus as plus_of, less as less_of
 use crate::shown::{Shown, less, plus};
 
 // A duration, which is relative: unit type 25.
-#[derive(Drop)]
+#[derive(Clone, Copy)]
 pub struct Duration(pub Shown);
 
 // A time, which is absolute: unit type 26.
-#[derive(Drop)]
+#[derive(Clone, Copy)]
 pub struct Time(pub Shown);
 
 impl Duration {

@@ -5,11 +5,11 @@ ghost use Rattle.sums_quantities.specs.Numbers.{plus as plus_of, less as less_of
 use crate::shown::{Shown, less, plus};
 
 // A length, which is relative: unit type 16.
-#[derive(Drop)]
+#[derive(Clone, Copy)]
 pub struct Length(pub Shown);
 
 // A position, which is absolute: unit type 17.
-#[derive(Drop)]
+#[derive(Clone, Copy)]
 pub struct Position(pub Shown);
 
 impl Length {

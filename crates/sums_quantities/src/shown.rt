@@ -2,7 +2,7 @@
 ghost use Rattle.std.specs.Prelude.{◌≡◌};
 ghost use Rattle.sums_quantities.specs.Numbers.{plus as plus_of, less as less_of};
 
-#[derive(Drop)]
+#[derive(Clone, Copy)]
 pub struct Shown {
     pub value: f64,
     pub display: u8,

@@ -5,11 +5,11 @@ ghost use Rattle.sums_quantities.specs.Numbers.{plus as plus_of, less as less_of
 use crate::shown::{Shown, less, plus};
 
 // A temperature, which is relative: unit type 23.
-#[derive(Drop)]
+#[derive(Clone, Copy)]
 pub struct Temperature(pub Shown);
 
 // An absolute temperature, which is absolute: unit type 24.
-#[derive(Drop)]
+#[derive(Clone, Copy)]
 pub struct AbsoluteTemperature(pub Shown);
 
 impl Temperature {

@@ -12,7 +12,7 @@ use writing::{CountType, Writer};
 mod answers;
 
 // The writer's state after a line, and the place after the text so far.
-#[derive(Drop)]
+#[derive(Clone, Copy)]
 struct Step {
     writer: Writer,
     at: usize,
@@ -20,7 +20,7 @@ struct Step {
 
 // What a line asks opening for; `known` where the line is understood. The count's type, `kind`, is no byte where it is
 // not stated.
-#[derive(Drop)]
+#[derive(Clone, Copy)]
 struct Opening {
     known: bool,
     number: i64,

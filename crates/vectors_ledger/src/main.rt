@@ -26,7 +26,7 @@ const MOST: usize = 9223372036854775807;
 const ALL: u64 = 18446744073709551615;
 
 // The ledger and the book.
-#[derive(Drop)]
+#[derive(Clone, Copy)]
 struct Both {
     ledger: Ledger,
     book: Book,

@@ -12,7 +12,7 @@ pub const ROOM: usize = 66000;
 pub const NONE: usize = usize::MAX;
 
 // A number, and the place after it.
-#[derive(Drop)]
+#[derive(Clone, Copy)]
 pub struct Figure {
     pub value: usize,
     pub at: usize,

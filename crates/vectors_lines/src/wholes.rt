@@ -5,7 +5,7 @@ use crate::number;
 
 // A signed number, n, or -1 - n where `below`, and the place after it; n is past any signed number's where none stands
 // there.
-#[derive(Drop)]
+#[derive(Clone, Copy)]
 pub struct Whole {
     pub below: bool,
     pub n: usize,

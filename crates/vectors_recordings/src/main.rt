@@ -27,14 +27,14 @@ const SHOWN: usize = 300;
 const SLOTS: usize = 8;
 
 // The recorder's state, and how many bytes of the buffer it is lent.
-#[derive(Drop)]
+#[derive(Clone, Copy)]
 struct Run {
     recorder: Recorder,
     room: usize,
 }
 
 // The numbers of a line: each is NONE where it is missing or too large. `ended` where nothing else stands in the line.
-#[derive(Drop)]
+#[derive(Clone, Copy)]
 struct Values {
     a: usize,
     b: usize,

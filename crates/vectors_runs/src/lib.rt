@@ -10,7 +10,7 @@ use vectors_lines::{ROOM, find, last, part, starts};
 const NUMBERS: usize = FIELDS * ROW;
 
 // What has been run so far, and the case that is being read.
-#[derive(Drop)]
+#[derive(Clone, Copy)]
 pub struct Run {
     // The line: its number from 1, and where it stands in the text.
     pub line: usize,

@@ -10,14 +10,14 @@ use vectors_lines::wholes::{byte_of, int_of, long_of, short_of, signed};
 use vectors_lines::{Figure, NONE, last, number, part, starts};
 
 // A scalar, or that the line is not understood.
-#[derive(Drop)]
+#[derive(Clone, Copy)]
 pub enum Told {
     Is(Scalar),
     Lost,
 }
 
 // A mark; `known` where it is understood.
-#[derive(Drop)]
+#[derive(Clone, Copy)]
 struct Marked {
     known: bool,
     mark: Mark,

@@ -6,7 +6,7 @@ use vectors_lines::{find, number, part};
 
 // Where a token of a line ends, and the message's length after it: past the message's room where the token is not
 // understood or does not fit.
-#[derive(Drop)]
+#[derive(Clone, Copy)]
 struct Step {
     at: usize,
     length: usize,

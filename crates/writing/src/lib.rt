@@ -12,7 +12,7 @@ use writing_encoding::encode;
 use writing_opening::write_header;
 
 // The type code of the declared count: not stated, which is 2, or stated.
-#[derive(Drop)]
+#[derive(Clone, Copy)]
 pub enum CountType {
     Unstated,
     Stated(u8),
@@ -20,7 +20,7 @@ pub enum CountType {
 
 // The writer's state: the bytes written so far, the declared number of fields, how many were added, and whether it is
 // closed.
-#[derive(Drop)]
+#[derive(Clone, Copy)]
 pub struct Writer {
     pub written: usize,
     pub declared: usize,
@@ -29,7 +29,7 @@ pub struct Writer {
 }
 
 // What a call of the writer answers, the bytes written so far or the refusal, and the state that it hands back.
-#[derive(Drop)]
+#[derive(Clone, Copy)]
 pub struct Wrote {
     pub said: Judged,
     pub writer: Writer,

@@ -15,7 +15,7 @@ use sim0mq_tables::per;
 use writing_puts::{bits, put_big, put_number};
 
 // An encoded field: its bytes, with zero after them, and how many they are; none where it may not be written.
-#[derive(Drop)]
+#[derive(Clone, Copy)]
 pub struct Encoded {
     pub bytes: [u8; 13],
     pub length: usize,
