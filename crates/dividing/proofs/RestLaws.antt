@@ -59,7 +59,7 @@ payload_then {s} {at} (f ∷ fs) (more a b) st h =
     let bytes = field_bytes f in
     let rest = flat_map field_bytes fs in
     let here = field_complete f a (stands_left bytes rest st) in
-    let there = payload_then fs b (stands_right bytes rest st) (omega (arith, length-append bytes rest)) in
+    let there = payload_then {at = at + length bytes} fs b (stands_right bytes rest st) (omega (arith, length-append bytes rest)) in
     let e : at + length bytes + length rest ≡ at + length (bytes ++ rest) = omega (arith, length-append bytes rest) in
     simp (here, after_at at f, there) (ap (refused 13) e)
 
