@@ -53,6 +53,7 @@ unfolding most_messages limit edition_in
 rows = more (row_by first refl refl) (more (row_by second refl refl) none)
 
 each_listed : (P : Edition → Type 0) (es : List Edition) (e : Edition) → Each P es → Listed e es → P e
+each_listed P [] e _ l = elim l [ ]
 each_listed P (f ∷ es) e (more p ps) here = p
 each_listed P (f ∷ es) e (more p ps) (later l) = each_listed P es e ps l
 

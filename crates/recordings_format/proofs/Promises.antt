@@ -8,7 +8,7 @@ use lib.ListN.{length, take, drop, get_or, length-append, length-map}
 use lib.Seq.{take_at, drop_at, get_or_at}
 use lib.Dec.{ltb}
 use borrow.Author.Tests.{le-leb, lt-leb, lt-ltb, le-ltb, ltb-true, ltb-false}
-use Rattle.sim0mq.specs.Answer.{Answer, fine, refused, ◌>>=◌, ◌>>◌, part_at}
+use Rattle.sim0mq.specs.Answer.{Answer, fine, refused, ◌>>=◌, part_at}
 use Rattle.sim0mq.specs.Message.{limit, no_table, enough, Reading, message, reading}
 use Rattle.sim0mq.specs.Allowed.{Each, none, more, joined}
 use Rattle.sim0mq.proofs.Answers.{not_fine, fine_eq, guarded, bind_fine, part_fine}
