@@ -1,5 +1,7 @@
 // The four pairs of a relative and an absolute quantity: which quantity a unit type says, and the manual's sums and
 // differences of two.
+#![tactic(auto)]
+
 ghost use Rattle.std.specs.Prelude.{◌≡◌};
 ghost use Rattle.sums_pairs.specs.Pairs.{quantity_at, quantity_sum, quantity_difference};
 ghost use Rattle.sums_pairs.specs.Views.{seen, combined};
