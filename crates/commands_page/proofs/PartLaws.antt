@@ -1,5 +1,5 @@
 -- What the page allows, said of a message's parts, is what it allows of the bytes at their places.
-use Prim.Native.Nat.{ℕ, zero, suc, ◌+◌, ◌-◌, ◌≤◌, ◌<◌}
+use Prim.Native.Nat.{ℕ, zero, suc, ◌+◌, ◌≤◌, ◌<◌}
 use mathlib.Core.Path.{◌≡◌, refl, ap, sym, ◌∙◌, subst}
 use mathlib.Core.Bool.{Bool, true, false, ◌&&◌, ◌||◌, or-true, false≢true}
 use mathlib.Core.Logic.{◌⊎◌, inl, inr}
@@ -14,7 +14,7 @@ use borrow.Author.Tests.{eqb-true, eq-eqb, ltb-true, lt-ltb}
 use Rattle.sim0mq.specs.Answer.{byte}
 use Rattle.sim0mq.specs.Codes.{counts_of, marking_of, width_of}
 use Rattle.sim0mq.specs.Field.{Field}
-use Rattle.sim0mq.specs.Allowed.{number, Each, none, more, IsCount, IsMark, with_display, with_currency, with_both, marks_asked, FieldParts, joined, field_bytes, IsField, frame0, header_bytes, header_frames, MessageParts, message_bytes}
+use Rattle.sim0mq.specs.Allowed.{Each, more, IsCount, IsMark, with_display, with_currency, with_both, marks_asked, FieldParts, joined, field_bytes, IsField, frame0, header_bytes, header_frames, MessageParts, message_bytes}
 use Rattle.sim0mq.specs.Demand2.{cut_frames}
 use Rattle.sim0mq.specs.Demand3.{ValueByte}
 use Rattle.sim0mq.proofs.Answers.{and_true}
@@ -24,7 +24,7 @@ use Rattle.sim0mq.proofs.HeaderLaws.{values_there, scalar_size}
 use Rattle.sim0mq.proofs.PayloadLaws.{fields_at, fields_many}
 use Rattle.sim0mq.proofs.BuildLaws.{values_after, values_past, values_rest}
 use Rattle.sim0mq.proofs.MessageLaws.{cut_of}
-use Rattle.commands_page.specs.Page.{Rule, any, filled, one_of, page}
+use Rattle.commands_page.specs.Page.{Rule, any, filled, one_of}
 use Rattle.commands_page.specs.Judging.{stands_at, is_word, is_one_of, text_taken, no_field, no_frame, looks, looks_at}
 use Rattle.commands_page.specs.Parts.{unit_in, TextAllowed, no_part}
 use Rattle.commands_page.proofs.WordLaws.{stands_bytes}

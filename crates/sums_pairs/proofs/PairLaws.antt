@@ -10,6 +10,7 @@ use lib.ListN.{get_or}
 use lib.Ieee.{nan}
 use borrow.Author.Tests.{eqb-true}
 use types.Run.{OneOf}
+use borrow.Enum.Refused.{Among, opened}
 use denote.Enum.Declared.{tag_of}
 use Rattle.sim0mq.specs.Answer.{Answer, fine, refused}
 use Rattle.sim0mq.proofs.Answers.{and_true}
@@ -79,11 +80,11 @@ module _ (rule : Q.Quantity → Q.Quantity → Answer Q.Quantity) where
   abbrev pub refuses_at : Answer Q.Quantity → Shown → ℕ → Bool
   refuses_at a x t = is_refused (combined rule a (seen_by x t))
 
-  pub not_combined : (a b q : Quantity) (k : ℕ) (l : List ℕ) → a ≡ q → OneOf (k ∷ l) (tag_of the_type b)
+  pub not_combined : (a b q : Quantity) (k : ℕ) (l : List ℕ) → a ≡ q → Among (k ∷ l) (tag_of the_type b)
       → all_pass (refuses_at (seen q) (number_in b)) (k ∷ l) ≡ true → refused 24 0 ≡ combined rule (seen a) (seen b)
   not_combined a b q k l e h g =
       let x = number_in b in
       let t = tag_of the_type b in
       sym
       (ap₂ (combined rule) (ap seen e) (seen_by_lem b)
-      ∙ is_refused_lem (combined rule (seen q) (seen_by x t)) (one_of_lem (refuses_at (seen q) x) k l t h g))
+      ∙ is_refused_lem (combined rule (seen q) (seen_by x t)) (one_of_lem (refuses_at (seen q) x) k l t (opened h) g))
