@@ -1,4 +1,6 @@
 // Numbers stored in the answer that a caller lends.
+#![tactic(auto)]
+
 ghost use Rattle.std.specs.Prelude.{◌≡◌, length};
 ghost use Rattle.boundary_giving.specs.Given.{returned, answer_after};
 
