@@ -1,4 +1,6 @@
 // The trailer and the index of a recording.
+#![tactic(auto)]
+
 ghost use Rattle.std.specs.Prelude.{◌≡◌, ◌<◌, ◌≤◌, length};
 ghost use Rattle.recordings_format.specs.Edition.{edition_of, trailer_size};
 ghost use Rattle.recordings_format.specs.Judge.{trailer_from, index as index_of};
