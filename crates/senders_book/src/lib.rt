@@ -1,5 +1,6 @@
 // The book of senders. What it is stands in specs/, what is promised of it is proved in proofs/; here are its types and
 // its two limits.
+#![tactic(auto)]
 
 // The most value bytes that a sender's id has.
 pub const ID_BYTES: usize = 32;
