@@ -1,5 +1,4 @@
 -- The three calls are the definition's three steps.
-use borrow.Author.Rules.{rules}
 use mathlib.Core.Path.{sym, ap, ◌∙◌}
 use Rattle.sim0mq.specs.Views.{judged}
 use Rattle.reading_heads.specs.Heads.{headed}

@@ -1,11 +1,7 @@
 -- The fields counted so far, and those from here on, are all of them; each turn passes one.
-use borrow.Author.Rules.{rules}
 use native.Mathlib.Omega.{arith}
-use Prim.Native.Nat.{ℕ, ◌+◌, ◌-◌, ◌*◌, ◌≤◌}
+use Prim.Native.Nat.{ℕ, ◌+◌, ◌-◌}
 use mathlib.Core.Path.{◌≡◌, sym, ◌∙◌}
-use lib.ListN.{length}
-use borrow.Author.Tests.{not-true, not-false}
-use Rattle.reading_runs.specs.Runs.{alike}
 use Rattle.reading_runs.proofs.RunCases.{stands_is, alike_none, alike_stop, alike_start, alike_more, grown, far_none, told_run}
 use Rattle.reading_runs.proofs.each.Goals as goal
 

@@ -1,11 +1,7 @@
-use borrow.Author.Rules.{rules}
-use native.Mathlib.Omega.{arith}
-use Prim.Native.Nat.{ℕ, ◌+◌, ◌-◌, ◌*◌, ◌≤◌}
-use mathlib.Core.Path.{◌≡◌, sym, ◌∙◌}
+use Prim.Native.Nat.{◌+◌, ◌-◌, ◌*◌, ◌≤◌}
+use mathlib.Core.Path.{◌≡◌}
 use lib.ListN.{length}
-use borrow.Author.Tests.{not-true, not-false}
 use Rattle.reading_runs.specs.Runs.{alike}
-use Rattle.reading_runs.proofs.RunCases.{stands_is, alike_none, alike_stop, alike_start, alike_more, grown, far_none, told_run}
 use Rattle.reading_runs.proofs.each.Given as goal
 
 abbrev pub invariant-loop-fields : goal.invariant-loop-fields

@@ -2,7 +2,6 @@
 use mathlib.Core.Path.{refl}
 use native.Mathlib.Omega.{arith}
 use Rattle.sim0mq.specs.Codes.{width_of, boolean}
-use Rattle.sim0mq_tables.proofs.TableCases.{none_below}
 use Rattle.reading_runs.specs.Runs.{plain_size}
 use Rattle.reading_runs.proofs.RunCases.{size_told, size_past}
 use Rattle.reading_runs.proofs.plain_size.Goals as goal

@@ -1,5 +1,4 @@
 -- Each return is a case of the definition: no field is asked for, none is there, or its code has a size or none.
-use borrow.Author.Rules.{rules}
 use native.Mathlib.Omega.{arith}
 use mathlib.Core.Path.{refl, sym, ap, ◌∙◌}
 use Rattle.reading_runs.specs.Runs.{plain_size}

@@ -1,5 +1,4 @@
 -- Each return is a case of the definition: the bytes end before the field does, or its code decides.
-use borrow.Author.Rules.{rules}
 use native.Mathlib.Omega.{arith}
 use mathlib.Core.Path.{sym}
 use Rattle.reading_runs.proofs.RunCases.{stands_short, stands_there}

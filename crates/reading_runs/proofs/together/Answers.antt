@@ -1,10 +1,8 @@
 -- Where the next field is not like this one, there is one field; else all are counted.
-use borrow.Author.Rules.{rules}
 use native.Mathlib.Omega.{arith}
 use Prim.Native.Nat.{◌-◌}
 use mathlib.Core.Path.{sym, ◌∙◌}
 use native.Mathlib.Nat.{zero-add}
-use borrow.Author.Tests.{not-true, not-false}
 use Rattle.reading_runs.proofs.RunCases.{stands_is, alike_stop, alike_more, far_none, far_one, told_run}
 use Rattle.reading_runs.proofs.together.Goals as goal
 

@@ -1,5 +1,4 @@
 -- The code, as a number, is the code.
-use borrow.Author.Rules.{rules}
 use Rattle.reading_runs.proofs.told.Goals as goal
 
 pub returns : goal.returns

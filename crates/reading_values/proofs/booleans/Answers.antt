@@ -1,5 +1,4 @@
 -- Where no byte is above 1 all are Booleans; else they are judged byte by byte.
-use borrow.Author.Rules.{rules}
 use native.Mathlib.Omega.{arith}
 use Rattle.reading_values.proofs.ValueCases.{none_most, booleans_all}
 use Rattle.reading_values.proofs.booleans.Goals as goal

@@ -1,10 +1,6 @@
 -- What is left to judge from here on answers for the whole; each turn judges one byte.
-use borrow.Author.Rules.{rules}
 use native.Mathlib.Omega.{arith}
-use Prim.Native.Nat.{◌+◌, ◌≤◌}
-use mathlib.Core.Path.{◌≡◌, refl, sym, ◌∙◌}
-use lib.ListN.{length}
-use Rattle.reading_values.specs.Values.{booleans_end}
+use mathlib.Core.Path.{refl, sym, ◌∙◌}
 use Rattle.reading_values.proofs.ValueCases.{booleans_done, booleans_more, booleans_stop}
 use Rattle.reading_values.proofs.each_boolean.Goals as goal
 

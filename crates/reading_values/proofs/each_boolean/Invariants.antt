@@ -1,11 +1,8 @@
 -- What is left to judge from here on answers for the whole; each turn judges one byte.
-use borrow.Author.Rules.{rules}
-use native.Mathlib.Omega.{arith}
 use Prim.Native.Nat.{◌+◌, ◌≤◌}
-use mathlib.Core.Path.{◌≡◌, refl, sym, ◌∙◌}
+use mathlib.Core.Path.{◌≡◌}
 use lib.ListN.{length}
 use Rattle.reading_values.specs.Values.{booleans_end}
-use Rattle.reading_values.proofs.ValueCases.{booleans_done, booleans_more, booleans_stop}
 use Rattle.reading_values.proofs.each_boolean.Given as goal
 
 abbrev pub invariant-loop-left : goal.invariant-loop-left

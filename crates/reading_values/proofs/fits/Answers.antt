@@ -1,5 +1,4 @@
 -- n values of w bytes fit into the room exactly when n is at most the room divided by w.
-use borrow.Author.Rules.{rules}
 use native.Mathlib.Omega.{arith}
 use mathlib.Core.Path.{refl}
 use Rattle.reading_values.proofs.ValueCases.{room_test}

@@ -1,10 +1,8 @@
 -- None of the bytes so far is above the most so far.
-use borrow.Author.Rules.{rules}
 use native.Mathlib.Omega.{arith}
 use native.Mathlib.Nat.{not-suc-le-zero}
-use Prim.Native.Nat.{ℕ, ◌+◌, ◌-◌, ◌≤◌}
+use Prim.Native.Nat.{ℕ}
 use mathlib.Core.Path.{◌≡◌, subst}
-use lib.ListN.{length}
 use Rattle.reading_values.specs.Values.{NoneAbove}
 use Rattle.reading_values.proofs.ValueCases.{none_more, none_most}
 use Rattle.reading_values.proofs.largest.Goals as goal

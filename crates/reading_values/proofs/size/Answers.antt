@@ -1,6 +1,5 @@
 -- The code's width is one of four, and each has its own call.
 use native.Mathlib.Omega.{arith}
-use borrow.Author.Rules.{rules}
 use mathlib.Core.Path.{sym, ◌∙◌}
 use Rattle.reading_values.proofs.ValueCases.{width_eight, size_past, size_told, size_of_none}
 use Rattle.reading_values.proofs.size.Goals as goal

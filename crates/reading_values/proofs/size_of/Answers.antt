@@ -1,6 +1,5 @@
 -- The values are there exactly when they fit into the bytes from the first on.
 use native.Mathlib.Omega.{arith}
-use borrow.Author.Rules.{rules}
 use Prim.Native.Nat.{◌≤◌, ℕ, ◌<◌, ◌^◌}
 use mathlib.Core.Path.{sym, ◌∙◌, ◌≡◌}
 use mathlib.Core.Bool.{true}

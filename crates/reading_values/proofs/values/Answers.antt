@@ -1,6 +1,5 @@
 -- The size that fits is the values', and all or none of their bytes are Booleans.
 use native.Mathlib.Omega.{arith}
-use borrow.Author.Rules.{rules}
 use mathlib.Core.Path.{sym, ap, ◌∙◌}
 use Rattle.sim0mq.specs.Views.{judged}
 use Rattle.reading_values.proofs.ValueCases.{size_goes, values_stop, values_boolean, values_other}
