@@ -4,24 +4,20 @@ use Prim.Native.Nat.{◌+◌}
 use Rattle.sim0mq.specs.Table.{row_size}
 use Rattle.sim0mq.specs.Message.{limit}
 use Rattle.reading_parts.proofs.KeptCases.{rows_within, rows_none}
-use Rattle.reading_parts.proofs.rows.Statement.{statement}
-use Rattle.reading_parts.proofs.rows.Tie as tie
+use Rattle.reading_parts.proofs.rows.Goals as goal
 
-returns : tie.Need-returns
+pub returns-then-bytes-base : goal.returns-then-bytes-base
 unfolding limit row_size
-returns c = rows_within _ _ (omega arith)
+returns-then-bytes-base c = rows_within _ _ (omega arith)
 
-returns-2 : tie.Need-returns-2
+pub returns-else-bytes-base : goal.returns-else-bytes-base
 unfolding limit
-returns-2 c =
-    let args = c.before.before.args in
+returns-else-bytes-base c =
+    let args = c.args in
     rows_none (args.base + args.bytes) args.numbers (omega arith)
 
-returns-3 : tie.Need-returns-3
+pub returns-else-base-le-LIMIT : goal.returns-else-base-le-LIMIT
 unfolding limit
-returns-3 c =
-    let args = c.before.args in
+returns-else-base-le-LIMIT c =
+    let args = c.args in
     rows_none (args.base + args.bytes) args.numbers (omega arith)
-
-pub rows-spec : {M : Type 1} → statement M
-rows-spec = tie.close (tie.spec returns returns-2 returns-3)

@@ -1,0 +1,21 @@
+use borrow.Author.Rules.{rules}
+use native.Mathlib.Omega.{arith}
+use Prim.Native.Nat.{◌+◌, ◌-◌, ◌≤◌}
+use mathlib.Core.Path.{◌≡◌, refl, sym, ◌∙◌, subst}
+use mathlib.Core.List.{map}
+use lib.ListN.{length}
+use Rattle.sim0mq.specs.Payload.{moved}
+use Rattle.reading_runs.specs.Runs.{alike_fields, far}
+use Rattle.reading_parts.specs.Kept.{kept_all, Small}
+use Rattle.reading_parts.proofs.RunCases.{run_done, run_reach, run_start, run_kept, run_next, run_small}
+use Rattle.reading_parts.proofs.keep_each.Given as goal
+
+abbrev pub invariant-loop-j : goal.invariant-loop-j
+invariant-loop-j l = (kept_all l.many l.k l.i (map (moved l.base) (alike_fields l.run.code l.run.size l.run.fields l.at)) l.initial.kept
+    ≡ kept_all l.many l.k (l.i + l.j) (map (moved l.base) (alike_fields l.run.code l.run.size (l.run.fields - l.j) l.p)) l.kept)
+    × (length l.kept ≡ length l.initial.kept)
+    × (far l.run.size (l.run.fields - l.j) l.p ≡ l.run.end)
+    × (l.j ≤ l.run.fields)
+
+abbrev pub decreases-loop-j : goal.decreases-loop-j
+decreases-loop-j l = l.run.fields - l.j
