@@ -1,4 +1,6 @@
 // The payload: a part of a message that is read by itself.
+#![tactic(auto)]
+
 ghost use Rattle.std.specs.Prelude.{◌≡◌, ◌+◌, length};
 ghost use Rattle.sim0mq.specs.Views.{judged};
 ghost use Rattle.sim0mq_numbers.specs.Numbers.{Below};
