@@ -67,11 +67,11 @@ module _ (s : List ℕ) where
 -- bytes that make these numbers are frame 0's, and frame 0 is taken
 literal_taken : {s : List ℕ} {at : ℕ} (bs : List ℕ) → Stands s at bs → literal s bs at ≡ fine (at + length bs)
 unfolding literal
-literal_taken [] there = ap fine (omega arith)
+literal_taken {s} {at} [] there = ap fine (omega arith)
 literal_taken {s} {at} (b ∷ bs) there =
     let fits = there.fits in
     simp (le-leb (at + 1) (length s) (omega arith), stands_head there, eq-eqb b b refl)
-    (literal_taken bs (stands_tail there) ∙ ap fine (omega arith))
+    (literal_taken {at = at + 1} bs (stands_tail there) ∙ ap fine (omega arith))
 
 frame_taken : {s : List ℕ} → Stands s 0 frame0 → magic s ≡ fine 10
 unfolding magic digit

@@ -1,4 +1,6 @@
 // Frame 0 of the header.
+#![tactic(auto)]
+
 ghost use Rattle.std.specs.Prelude.{◌≡◌};
 ghost use Rattle.sim0mq.specs.Header.{digit as digit_of, magic as magic_of};
 ghost use Rattle.sim0mq.specs.Views.{judged};
