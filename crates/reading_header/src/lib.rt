@@ -1,4 +1,6 @@
 // The header: the eight frames, in and out as an array by value.
+#![tactic(auto)]
+
 ghost use Rattle.std.specs.Prelude.{◌≡◌};
 ghost use Rattle.sim0mq.specs.Header.{id_codes, among as among_of, frame as frame_of, status as status_of, header as header_of};
 ghost use Rattle.reading_fields.specs.Items.{fielded};
