@@ -4,6 +4,8 @@ use Prim.Native.Nat.{ℕ}
 use mathlib.Core.Path.{◌≡◌, refl, ap, sym, ◌∙◌, subst}
 use mathlib.Core.Bool.{cond}
 use lib.Dec.{eqb}
+use Rattle.determining.specs.Outcomes.{Determines}
+use Rattle.determining.proofs.Equations.{determined, equated}
 use Rattle.sim0mq.specs.Answer.{Answer, fine, refused}
 use Rattle.sim0mq.specs.Views.{judged}
 use Rattle.sim0mq.specs.declared.Refusal.{Refusal}
@@ -54,10 +56,10 @@ use Rattle.sums_pairs.specs.Views.{seen}
 use Rattle.sums_pairs.specs.declared.Quantity.{Quantity}
 use Rattle.sums_pairs.specs.declared.Quantity.TheVariants.{Other}
 use Rattle.sums_pairs.specs.declared.Quantity.TheVariants as Q
-use Rattle.sim0mq.proofs.refuse.Reads as sim0mq-refuse
+use Rattle.sim0mq.proofs.refuse.Reads as sim0mq_refuse
 use Rattle.reading_parts.proofs.part.Reads as part
-use Rattle.reading_parts.proofs.part_from.Reads as part-from
-use Rattle.reading_parts.proofs.keep_lead.Reads as keep-lead
+use Rattle.reading_parts.proofs.part_from.Reads as part_from
+use Rattle.reading_parts.proofs.keep_lead.Reads as keep_lead
 use Rattle.reading_runs.proofs.run_at.Reads as run_at
 use Rattle.reading_payload.proofs.payload.Reads as payload
 use Rattle.reading_heads.proofs.head.Reads as head
@@ -65,15 +67,15 @@ use Rattle.reading_values.proofs.size.Reads as size
 use Rattle.reading_values.proofs.values.Reads as values
 use Rattle.reading_fields.proofs.outline.Reads as outline
 use Rattle.sim0mq_marks.proofs.mark.Reads as mark
-use Rattle.sim0mq_marks.proofs.mark_by.Reads as mark-by
+use Rattle.sim0mq_marks.proofs.mark_by.Reads as mark_by
 use Rattle.sim0mq_marks.proofs.marks.Reads as marks
-use Rattle.sim0mq_displays.proofs.currency_taken.Reads as currency-taken
-use Rattle.sim0mq_displays.proofs.display_taken.Reads as display-taken
+use Rattle.sim0mq_displays.proofs.currency_taken.Reads as currency_taken
+use Rattle.sim0mq_displays.proofs.display_taken.Reads as display_taken
 use Rattle.sim0mq_numbers.proofs.wide.Reads as wide
 use Rattle.sim0mq_numbers.proofs.wide32.Reads as wide32
 use Rattle.sim0mq_numbers.proofs.number.Reads as number
 use Rattle.sim0mq_numbers.proofs.count.Reads as count
-use Rattle.sim0mq_buffers.proofs.put.Reads as put-text
+use Rattle.sim0mq_buffers.proofs.put.Reads as put_text
 use Rattle.sim0mq_buffers.proofs.clear.Reads as clear
 use Rattle.sim0mq_tables.proofs.counts.Reads as counts
 use Rattle.sim0mq_tables.proofs.marking.Reads as marking
@@ -90,139 +92,122 @@ use Rattle.reading.proofs.judge.Reads as judge
 use Rattle.asking.proofs.ask.Reads as ask
 use Rattle.asking.proofs.view.Reads as view
 use Rattle.asking_scalars.proofs.value.Reads as value
-use Rattle.sim0mq_signed.proofs.i8_of.Reads as i8-of
-use Rattle.sim0mq_signed.proofs.i16_of.Reads as i16-of
-use Rattle.sim0mq_signed.proofs.i32_of.Reads as i32-of
-use Rattle.sim0mq_signed.proofs.i64_of.Reads as i64-of
+use Rattle.sim0mq_signed.proofs.i8_of.Reads as i8_of
+use Rattle.sim0mq_signed.proofs.i16_of.Reads as i16_of
+use Rattle.sim0mq_signed.proofs.i32_of.Reads as i32_of
+use Rattle.sim0mq_signed.proofs.i64_of.Reads as i64_of
 use Rattle.sim0mq_kinds.proofs.float_of.Reads as float_of
-use Rattle.sim0mq_kinds.proofs.double_of.Reads as double-of
-use Rattle.sim0mq_kinds.proofs.float_with.Reads as float-with
-use Rattle.sim0mq_kinds.proofs.double_with.Reads as double-with
+use Rattle.sim0mq_kinds.proofs.double_of.Reads as double_of
+use Rattle.sim0mq_kinds.proofs.float_with.Reads as float_with
+use Rattle.sim0mq_kinds.proofs.double_with.Reads as double_with
 use Rattle.blanking.proofs.blank.Reads as blank
-use Rattle.writing_opening.proofs.write_header.Reads as write-header
+use Rattle.writing_opening.proofs.write_header.Reads as write_header
 use Rattle.writing.proofs.Writer.open.Reads as opening
 use Rattle.writing.proofs.Writer.add.Reads as add
-use Rattle.writing.proofs.Writer.add_scalar.Reads as add-scalar
+use Rattle.writing.proofs.Writer.add_scalar.Reads as add_scalar
 use Rattle.writing.proofs.Writer.close.Reads as close
 use Rattle.recordings_index.proofs.index.Reads as index
-use Rattle.recordings_index.proofs.index_tail.Reads as index-tail
-use Rattle.recordings.proofs.open.Reads as recording-open
-use Rattle.recordings.proofs.open_into.Reads as open-into
-use Rattle.recordings.proofs.ask.Reads as recording-ask
-use Rattle.recordings_reaching.proofs.ask_tail.Reads as ask-tail
-use Rattle.recordings_fronts.proofs.front_length.Reads as Front-length
+use Rattle.recordings_index.proofs.index_tail.Reads as index_tail
+use Rattle.recordings.proofs.open.Reads as recording_open
+use Rattle.recordings.proofs.open_into.Reads as open_into
+use Rattle.recordings.proofs.ask.Reads as recording_ask
+use Rattle.recordings_reaching.proofs.ask_tail.Reads as ask_tail
+use Rattle.recordings_fronts.proofs.front_length.Reads as front_length
 use Rattle.recordings_fronts.proofs.divide.Reads as divide
-use Rattle.recordings_tails.proofs.put_tail.Reads as put-tail
-use Rattle.recordings_writing.proofs.Recorder.new.Reads as recorder-new
-use Rattle.recordings_writing.proofs.Recorder.add.Reads as recorder-add
-use Rattle.recordings_writing.proofs.Recorder.close.Reads as recorder-close
+use Rattle.recordings_tails.proofs.put_tail.Reads as put_tail
+use Rattle.recordings_writing.proofs.Recorder.new.Reads as recorder_new
+use Rattle.recordings_writing.proofs.Recorder.add.Reads as recorder_add
+use Rattle.recordings_writing.proofs.Recorder.close.Reads as recorder_close
 use Rattle.recordings_salvaging.proofs.salvage.Reads as salvage
-use Rattle.recordings_blanking.proofs.blank_recording.Reads as blank-recording
+use Rattle.recordings_blanking.proofs.blank_recording.Reads as blank_recording
 use Rattle.commands.proofs.command.Reads as command
 use Rattle.senders_lookup.proofs.place_of.Reads as place_of
-use Rattle.senders_lookup.proofs.free_place.Reads as free-place
-use Rattle.senders.proofs.empty.Reads as book-empty
-use Rattle.senders.proofs.take_framed.Reads as take-framed
-use Rattle.senders.proofs.take.Reads as book-take
-use Rattle.senders.proofs.close.Reads as book-close
+use Rattle.senders_lookup.proofs.free_place.Reads as free_place
+use Rattle.senders.proofs.empty.Reads as book_empty
+use Rattle.senders.proofs.take_framed.Reads as take_framed
+use Rattle.senders.proofs.take.Reads as book_take
+use Rattle.senders.proofs.close.Reads as book_close
 use Rattle.ledger_judging.proofs.order.Reads as order
-use Rattle.ledger.proofs.empty.Reads as ledger-empty
-use Rattle.ledger.proofs.muster_framed.Reads as muster-framed
+use Rattle.ledger.proofs.empty.Reads as ledger_empty
+use Rattle.ledger.proofs.muster_framed.Reads as muster_framed
 use Rattle.ledger.proofs.muster.Reads as muster
 use Rattle.ledger_recordings.proofs.reckon.Reads as reckon
 use Rattle.writing_puts.proofs.bits.Reads as bits
-use Rattle.writing_puts.proofs.put_big.Reads as put-big
-use Rattle.writing_puts.proofs.put_number.Reads as put-number
+use Rattle.writing_puts.proofs.put_big.Reads as put_big
+use Rattle.writing_puts.proofs.put_number.Reads as put_number
 use Rattle.writing_encoding.proofs.encode.Reads as encode
-use Rattle.writing_encoding.proofs.mark_taken.Reads as mark_taken_lem
-use Rattle.boundary_crossing.proofs.give_read.Reads as give-read
-use Rattle.boundary_crossing.proofs.give_length.Reads as give-length
-use Rattle.boundary_crossing.proofs.give_view.Reads as give-view
-use Rattle.boundary_writer_crossing.proofs.give_wrote.Reads as give-wrote
-use Rattle.boundary_writer_crossing.proofs.writer_of.Reads as Writer-of
-use Rattle.boundary_writer_crossing.proofs.count_type.Reads as count-type
-use Rattle.sums_quantities.proofs.lengths.Length.plus.Reads as length-plus
-use Rattle.sums_quantities.proofs.lengths.Length.plus_position.Reads as length-plus-position
-use Rattle.sums_quantities.proofs.lengths.Length.less.Reads as length-less
-use Rattle.sums_quantities.proofs.lengths.Position.plus.Reads as position-plus
-use Rattle.sums_quantities.proofs.lengths.Position.less.Reads as position-less
-use Rattle.sums_quantities.proofs.lengths.Position.less_position.Reads as position-less-position
-use Rattle.sums_quantities.proofs.durations.Duration.plus.Reads as duration-plus
-use Rattle.sums_quantities.proofs.durations.Duration.plus_time.Reads as duration-plus-time
-use Rattle.sums_quantities.proofs.durations.Duration.less.Reads as duration-less
-use Rattle.sums_quantities.proofs.durations.Time.plus.Reads as time-plus
-use Rattle.sums_quantities.proofs.durations.Time.less.Reads as time-less
-use Rattle.sums_quantities.proofs.durations.Time.less_time.Reads as time-less-time
-use Rattle.sums_quantities.proofs.angles.Angle.plus.Reads as angle-plus
-use Rattle.sums_quantities.proofs.angles.Angle.plus_direction.Reads as angle-plus-direction
-use Rattle.sums_quantities.proofs.angles.Angle.less.Reads as angle-less
-use Rattle.sums_quantities.proofs.angles.Direction.plus.Reads as direction-plus
-use Rattle.sums_quantities.proofs.angles.Direction.less.Reads as direction-less
-use Rattle.sums_quantities.proofs.angles.Direction.less_direction.Reads as direction-less-direction
-use Rattle.sums_quantities.proofs.temperatures.Temperature.plus.Reads as temperature-plus
-use Rattle.sums_quantities.proofs.temperatures.Temperature.plus_absolute_temperature.Reads as temperature-plus-absolute-temperature
-use Rattle.sums_quantities.proofs.temperatures.Temperature.less.Reads as temperature-less
-use Rattle.sums_quantities.proofs.temperatures.AbsoluteTemperature.plus.Reads as absolute-temperature-plus
-use Rattle.sums_quantities.proofs.temperatures.AbsoluteTemperature.less.Reads as absolute-temperature-less
-use Rattle.sums_quantities.proofs.temperatures.AbsoluteTemperature.less_absolute_temperature.Reads as absolute-temperature-less-absolute-temperature
-use Rattle.sums_quantities.proofs.shown.plus.Reads as shown-plus
-use Rattle.sums_quantities.proofs.shown.less.Reads as shown-less
-use Rattle.sums_pairs.proofs.quantity_of.Reads as quantity-of
-use Rattle.sums_pairs.proofs.add.Reads as add-quantities
-use Rattle.sums_pairs.proofs.subtract.Reads as subtract-quantities
+use Rattle.writing_encoding.proofs.mark_taken.Reads as mark_taken
+use Rattle.boundary_crossing.proofs.give_read.Reads as give_read
+use Rattle.boundary_crossing.proofs.give_length.Reads as give_length
+use Rattle.boundary_crossing.proofs.give_view.Reads as give_view
+use Rattle.boundary_writer_crossing.proofs.give_wrote.Reads as give_wrote
+use Rattle.boundary_writer_crossing.proofs.writer_of.Reads as writer_of
+use Rattle.boundary_writer_crossing.proofs.count_type.Reads as count_type
+use Rattle.sums_quantities.proofs.lengths.Length.plus.Reads as length_plus
+use Rattle.sums_quantities.proofs.lengths.Length.plus_position.Reads as length_plus_position
+use Rattle.sums_quantities.proofs.lengths.Length.less.Reads as length_less
+use Rattle.sums_quantities.proofs.lengths.Position.plus.Reads as position_plus
+use Rattle.sums_quantities.proofs.lengths.Position.less.Reads as position_less
+use Rattle.sums_quantities.proofs.lengths.Position.less_position.Reads as position_less_position
+use Rattle.sums_quantities.proofs.durations.Duration.plus.Reads as duration_plus
+use Rattle.sums_quantities.proofs.durations.Duration.plus_time.Reads as duration_plus_time
+use Rattle.sums_quantities.proofs.durations.Duration.less.Reads as duration_less
+use Rattle.sums_quantities.proofs.durations.Time.plus.Reads as time_plus
+use Rattle.sums_quantities.proofs.durations.Time.less.Reads as time_less
+use Rattle.sums_quantities.proofs.durations.Time.less_time.Reads as time_less_time
+use Rattle.sums_quantities.proofs.angles.Angle.plus.Reads as angle_plus
+use Rattle.sums_quantities.proofs.angles.Angle.plus_direction.Reads as angle_plus_direction
+use Rattle.sums_quantities.proofs.angles.Angle.less.Reads as angle_less
+use Rattle.sums_quantities.proofs.angles.Direction.plus.Reads as direction_plus
+use Rattle.sums_quantities.proofs.angles.Direction.less.Reads as direction_less
+use Rattle.sums_quantities.proofs.angles.Direction.less_direction.Reads as direction_less_direction
+use Rattle.sums_quantities.proofs.temperatures.Temperature.plus.Reads as temperature_plus
+use Rattle.sums_quantities.proofs.temperatures.Temperature.plus_absolute_temperature.Reads as temperature_plus_absolute_temperature
+use Rattle.sums_quantities.proofs.temperatures.Temperature.less.Reads as temperature_less
+use Rattle.sums_quantities.proofs.temperatures.AbsoluteTemperature.plus.Reads as absolute_temperature_plus
+use Rattle.sums_quantities.proofs.temperatures.AbsoluteTemperature.less.Reads as absolute_temperature_less
+use Rattle.sums_quantities.proofs.temperatures.AbsoluteTemperature.less_absolute_temperature.Reads as absolute_temperature_less_absolute_temperature
+use Rattle.sums_quantities.proofs.shown.plus.Reads as shown_plus
+use Rattle.sums_quantities.proofs.shown.less.Reads as shown_less
+use Rattle.sums_pairs.proofs.quantity_of.Reads as quantity_of
+use Rattle.sums_pairs.proofs.add.Reads as add_quantities
+use Rattle.sums_pairs.proofs.subtract.Reads as subtract_quantities
 use Rattle.sums.proofs.sum.Reads as sum
 use Rattle.sums.proofs.difference.Reads as difference
-use Rattle.boundary_casting.proofs.give_value.Reads as give-value
-use Rattle.boundary_casting.proofs.scalar_from.Reads as scalar-from
+use Rattle.boundary_casting.proofs.give_value.Reads as give_value
+use Rattle.boundary_casting.proofs.scalar_from.Reads as scalar_from
 use Rattle.boundary_giving.proofs.give.Reads as give
 use Rattle.boundary_exports.proofs.sim0mq_read.Reads as c_read
-use Rattle.boundary_exports.proofs.sim0mq_judge.Reads as c-judge
-use Rattle.boundary_exports.proofs.sim0mq_value.Reads as c-value
-use Rattle.boundary_exports.proofs.sim0mq_view.Reads as c-view
-use Rattle.boundary_exports.proofs.sim0mq_blank.Reads as c-blank
-use Rattle.boundary_writer_exports.proofs.sim0mq_open.Reads as c-open
-use Rattle.boundary_writer_exports.proofs.sim0mq_add.Reads as c-add
-use Rattle.boundary_writer_exports.proofs.sim0mq_add_scalar.Reads as c-add-scalar
-use Rattle.boundary_writer_exports.proofs.sim0mq_close.Reads as c-close
-use Rattle.boundary_recordings.proofs.sim0mq_recording_open.Reads as c-recording-open
-use Rattle.boundary_recordings.proofs.sim0mq_recording_open_into.Reads as c-recording-open-into
-use Rattle.boundary_recordings.proofs.sim0mq_recording_ask.Reads as c-recording-ask
-use Rattle.boundary_recordings.proofs.sim0mq_salvage.Reads as c-salvage
-use Rattle.boundary_commands.proofs.sim0mq_command.Reads as c-command
-use Rattle.boundary_recorder.proofs.sim0mq_recording_add.Reads as c-recording-add
-use Rattle.boundary_recorder.proofs.sim0mq_recording_close.Reads as c-recording-close
-use Rattle.boundary_sums.proofs.sim0mq_sum.Reads as c-sum
-use Rattle.boundary_sums.proofs.sim0mq_difference.Reads as c-difference
-use Rattle.boundary_books.proofs.book_of.Reads as book-of
-use Rattle.boundary_books.proofs.put_book.Reads as put-book
-use Rattle.boundary_senders.proofs.sim0mq_take.Reads as c-take
-use Rattle.boundary_senders.proofs.sim0mq_close_sender.Reads as c-close-sender
-use Rattle.boundary_ledger.proofs.sim0mq_muster.Reads as c-muster
-use Rattle.boundary_ledger.proofs.sim0mq_reckon.Reads as c-reckon
+use Rattle.boundary_exports.proofs.sim0mq_judge.Reads as c_judge
+use Rattle.boundary_exports.proofs.sim0mq_value.Reads as c_value
+use Rattle.boundary_exports.proofs.sim0mq_view.Reads as c_view
+use Rattle.boundary_exports.proofs.sim0mq_blank.Reads as c_blank
+use Rattle.boundary_writer_exports.proofs.sim0mq_open.Reads as c_open
+use Rattle.boundary_writer_exports.proofs.sim0mq_add.Reads as c_add
+use Rattle.boundary_writer_exports.proofs.sim0mq_add_scalar.Reads as c_add_scalar
+use Rattle.boundary_writer_exports.proofs.sim0mq_close.Reads as c_close
+use Rattle.boundary_recordings.proofs.sim0mq_recording_open.Reads as c_recording_open
+use Rattle.boundary_recordings.proofs.sim0mq_recording_open_into.Reads as c_recording_open_into
+use Rattle.boundary_recordings.proofs.sim0mq_recording_ask.Reads as c_recording_ask
+use Rattle.boundary_recordings.proofs.sim0mq_salvage.Reads as c_salvage
+use Rattle.boundary_commands.proofs.sim0mq_command.Reads as c_command
+use Rattle.boundary_recorder.proofs.sim0mq_recording_add.Reads as c_recording_add
+use Rattle.boundary_recorder.proofs.sim0mq_recording_close.Reads as c_recording_close
+use Rattle.boundary_sums.proofs.sim0mq_sum.Reads as c_sum
+use Rattle.boundary_sums.proofs.sim0mq_difference.Reads as c_difference
+use Rattle.boundary_books.proofs.book_of.Reads as book_of
+use Rattle.boundary_books.proofs.put_book.Reads as put_book
+use Rattle.boundary_senders.proofs.sim0mq_take.Reads as c_take
+use Rattle.boundary_senders.proofs.sim0mq_close_sender.Reads as c_close_sender
+use Rattle.boundary_ledger.proofs.sim0mq_muster.Reads as c_muster
+use Rattle.boundary_ledger.proofs.sim0mq_reckon.Reads as c_reckon
 use Rattle.programs_pieces.proofs.put.Reads as put
 use Rattle.programs_pieces.proofs.number.Reads as decimal
 use Rattle.programs_listing.proofs.listing.Reads as listing
-use Rattle.programs_listing.proofs.first_line.Reads as first-line
+use Rattle.programs_listing.proofs.first_line.Reads as first_line
 
--- A contract says of an outcome, the result z and the parameters e at exit, whether it is allowed at the arguments a
--- and the lifetimes κs. It determines what is seen of an outcome where any two that it allows at the same arguments
--- look the same. The call named NAME above has such a theorem of its result, NAME-result, and of each buffer that it
--- may write, by the parameter's name; tools/public-calls looks for them.
-abbrev pub Determines : {K : Type 0} {A Z E X : K → Type 0} → ((κs : K) → A κs → Z κs → E κs → Type 0) → ((κs : K) → Z κs → E κs → X κs) → Type 0
-Determines {K} {A} {Z} {E} contract seen =
-    (κs : K) (a : A κs) (z z' : Z κs) (e e' : E κs) → contract κs a z e → contract κs a z' e' → seen κs z e ≡ seen κs z' e'
-
--- It does so where it equates a view of what is seen, which tells all of it apart, with a definition of the arguments.
-pub determined : {K : Type 0} {A Z E X Y : K → Type 0} {contract : (κs : K) → A κs → Z κs → E κs → Type 0} {seen : (κs : K) → Z κs → E κs → X κs}
-    (view : (κs : K) → X κs → Y κs) → ((κs : K) (x y : X κs) → view κs x ≡ view κs y → x ≡ y) → (means : (κs : K) → A κs → Y κs)
-    → ((κs : K) (a : A κs) (z : Z κs) (e : E κs) → contract κs a z e → view κs (seen κs z e) ≡ means κs a) → Determines contract seen
-determined view apart means told κs a z z' e e' p p' = apart κs _ _ (told κs a z e p ∙ sym (told κs a z' e' p'))
-
--- Most contracts equate the thing itself.
-pub equated : {K : Type 0} {A Z E X : K → Type 0} {contract : (κs : K) → A κs → Z κs → E κs → Type 0} {seen : (κs : K) → Z κs → E κs → X κs}
-    (means : (κs : K) → A κs → X κs)
-    → ((κs : K) (a : A κs) (z : Z κs) (e : E κs) → contract κs a z e → seen κs z e ≡ means κs a) → Determines contract seen
-equated {contract = contract} {seen = seen} means told = determined {contract = contract} {seen = seen} (λ κs x. x) (λ κs x y q. q) means told
+-- The call named NAME above has such a theorem of its result, NAME_result, and of each buffer that it may write, by the
+-- parameter's name; tools/public-calls looks for them.
 
 -- The views of answers tell them apart: two refusals of one number at one place are one.
 same_refusal : {A : Type 0} (r q : Refusal) → ◌≡◌ {A = Answer A} (refused r.number r.place) (refused q.number q.place) → r ≡ q
@@ -388,7 +373,7 @@ seen_apart : (x y : Quantity) → seen x ≡ seen y → x ≡ y
 seen_apart x y e = sym (found_again x) ∙ ap again e ∙ found_again y
 
 -- The calls of crate sim0mq.
-pub sim0mq_refuse_result : Determines sim0mq-refuse.Post (λ κs z e. z)
+pub sim0mq_refuse_result : Determines sim0mq_refuse.Post (λ κs z e. z)
 sim0mq_refuse_result = determined (λ κs. judged) (λ κs. judged_apart) _ (λ κs a z e p. p)
 
 -- The calls of crate tables.
@@ -424,24 +409,24 @@ pub count_result : Determines count.Post (λ κs z e. z)
 count_result = determined (λ κs. judged) (λ κs. judged_apart) _ (λ κs a z e p. p.0)
 
 -- The calls of crate buffers.
-pub put_text_out : Determines put-text.Post (λ κs z e. e.1.0.now)
+pub put_text_out : Determines put_text.Post (λ κs z e. e.1.0.now)
 put_text_out = equated _ (λ κs a z e p. p)
 
 pub clear_out : Determines clear.Post (λ κs z e. e.0.now)
 clear_out = equated _ (λ κs a z e p. p)
 
 -- The calls of crate displays.
-pub currency_taken_result : Determines currency-taken.Post (λ κs z e. z)
+pub currency_taken_result : Determines currency_taken.Post (λ κs z e. z)
 currency_taken_result = equated _ (λ κs a z e p. p)
 
-pub display_taken_result : Determines display-taken.Post (λ κs z e. z)
+pub display_taken_result : Determines display_taken.Post (λ κs z e. z)
 display_taken_result = equated _ (λ κs a z e p. p)
 
 -- The calls of crate marks.
 pub mark_result : Determines mark.Post (λ κs z e. z)
 mark_result = determined (λ κs. judged) (λ κs. judged_apart) _ (λ κs a z e p. p)
 
-pub mark_by_result : Determines mark-by.Post (λ κs z e. z)
+pub mark_by_result : Determines mark_by.Post (λ κs z e. z)
 mark_by_result = determined (λ κs. judged) (λ κs. judged_apart) _ (λ κs a z e p. p)
 
 pub marks_result : Determines marks.Post (λ κs z e. z)
@@ -467,13 +452,13 @@ pub run_at_result : Determines run_at.Post (λ κs z e. z)
 run_at_result = equated _ (λ κs a z e p. p)
 
 -- The calls of crate parts.
-pub part_from_result : Determines part-from.Post (λ κs z e. z)
+pub part_from_result : Determines part_from.Post (λ κs z e. z)
 part_from_result = determined (λ κs. judged) (λ κs. judged_apart) _ (λ κs a z e p. p.0.0)
 
-pub part_from_kept : Determines part-from.Post (λ κs z e. e.1.1.1.1.1.0.now)
+pub part_from_kept : Determines part_from.Post (λ κs z e. e.1.1.1.1.1.0.now)
 part_from_kept = equated _ (λ κs a z e p. p.1)
 
-pub keep_lead_kept : Determines keep-lead.Post (λ κs z e. e.0.now)
+pub keep_lead_kept : Determines keep_lead.Post (λ κs z e. e.0.now)
 keep_lead_kept = equated _ (λ κs a z e p. p)
 
 pub part_result : Determines part.Post (λ κs z e. z)
@@ -528,29 +513,29 @@ pub value_result : Determines value.Post (λ κs z e. z)
 value_result = determined (λ κs. valued) (λ κs. valued_apart) _ (λ κs a z e p. p)
 
 -- The calls of crate signed.
-pub i8_of_result : Determines i8-of.Post (λ κs z e. z)
+pub i8_of_result : Determines i8_of.Post (λ κs z e. z)
 i8_of_result = equated _ (λ κs a z e p. p)
 
-pub i16_of_result : Determines i16-of.Post (λ κs z e. z)
+pub i16_of_result : Determines i16_of.Post (λ κs z e. z)
 i16_of_result = equated _ (λ κs a z e p. p)
 
-pub i32_of_result : Determines i32-of.Post (λ κs z e. z)
+pub i32_of_result : Determines i32_of.Post (λ κs z e. z)
 i32_of_result = equated _ (λ κs a z e p. p)
 
-pub i64_of_result : Determines i64-of.Post (λ κs z e. z)
+pub i64_of_result : Determines i64_of.Post (λ κs z e. z)
 i64_of_result = equated _ (λ κs a z e p. p)
 
 -- The calls of crate kinds.
 pub float_of_result : Determines float_of.Post (λ κs z e. z)
 float_of_result = equated _ (λ κs a z e p. p)
 
-pub double_of_result : Determines double-of.Post (λ κs z e. z)
+pub double_of_result : Determines double_of.Post (λ κs z e. z)
 double_of_result = equated _ (λ κs a z e p. p)
 
-pub float_with_result : Determines float-with.Post (λ κs z e. z)
+pub float_with_result : Determines float_with.Post (λ κs z e. z)
 float_with_result = equated _ (λ κs a z e p. p)
 
-pub double_with_result : Determines double-with.Post (λ κs z e. z)
+pub double_with_result : Determines double_with.Post (λ κs z e. z)
 double_with_result = equated _ (λ κs a z e p. p)
 
 -- The calls of crate blanking.
@@ -564,25 +549,25 @@ blank_out = equated _ (λ κs a z e p. p.1)
 pub index_result : Determines index.Post (λ κs z e. z)
 index_result = determined (λ κs. trailed_as) (λ κs. trailed_apart) _ (λ κs a z e p. p)
 
-pub index_tail_result : Determines index-tail.Post (λ κs z e. z)
+pub index_tail_result : Determines index_tail.Post (λ κs z e. z)
 index_tail_result = determined (λ κs. reached_as) (λ κs. reached_apart) _ (λ κs a z e p. p)
 
-pub recording_open_result : Determines recording-open.Post (λ κs z e. z)
+pub recording_open_result : Determines recording_open.Post (λ κs z e. z)
 recording_open_result = determined (λ κs. judged) (λ κs. judged_apart) _ (λ κs a z e p. p)
 
-pub open_into_result : Determines open-into.Post (λ κs z e. z)
+pub open_into_result : Determines open_into.Post (λ κs z e. z)
 open_into_result = determined (λ κs. judged) (λ κs. judged_apart) _ (λ κs a z e p. p.0)
 
-pub open_into_table : Determines open-into.Post (λ κs z e. e.1.0.now)
+pub open_into_table : Determines open_into.Post (λ κs z e. e.1.0.now)
 open_into_table = equated _ (λ κs a z e p. p.1)
 
-pub recording_ask_result : Determines recording-ask.Post (λ κs z e. z)
+pub recording_ask_result : Determines recording_ask.Post (λ κs z e. z)
 recording_ask_result = determined (λ κs. asked_as) (λ κs. asked_apart) _ (λ κs a z e p. p)
 
-pub ask_tail_result : Determines ask-tail.Post (λ κs z e. z)
+pub ask_tail_result : Determines ask_tail.Post (λ κs z e. z)
 ask_tail_result = determined (λ κs. reaching_as) (λ κs. reaching_apart) _ (λ κs a z e p. p)
 
-pub front_length_result : Determines Front-length.Post (λ κs z e. z)
+pub front_length_result : Determines front_length.Post (λ κs z e. z)
 front_length_result = determined (λ κs. judged) (λ κs. judged_apart) _ (λ κs a z e p. p)
 
 pub divide_result : Determines divide.Post (λ κs z e. z)
@@ -591,25 +576,25 @@ divide_result = equated _ (λ κs a z e p. p.0)
 pub divide_lengths : Determines divide.Post (λ κs z e. e.1.0.now)
 divide_lengths = equated _ (λ κs a z e p. p.1)
 
-pub put_tail_result : Determines put-tail.Post (λ κs z e. z)
+pub put_tail_result : Determines put_tail.Post (λ κs z e. z)
 put_tail_result = determined (λ κs. judged) (λ κs. judged_apart) _ (λ κs a z e p. p.0)
 
-pub put_tail_out : Determines put-tail.Post (λ κs z e. e.1.0.now)
+pub put_tail_out : Determines put_tail.Post (λ κs z e. e.1.0.now)
 put_tail_out = equated _ (λ κs a z e p. p.1)
 
-pub recorder_new_result : Determines recorder-new.Post (λ κs z e. z)
+pub recorder_new_result : Determines recorder_new.Post (λ κs z e. z)
 recorder_new_result = equated _ (λ κs a z e p. p)
 
-pub recorder_add_result : Determines recorder-add.Post (λ κs z e. z)
+pub recorder_add_result : Determines recorder_add.Post (λ κs z e. z)
 recorder_add_result = equated _ (λ κs a z e p. p.0)
 
-pub recorder_add_out : Determines recorder-add.Post (λ κs z e. e.1.1.0.now)
+pub recorder_add_out : Determines recorder_add.Post (λ κs z e. e.1.1.0.now)
 recorder_add_out = equated _ (λ κs a z e p. p.1)
 
-pub recorder_close_result : Determines recorder-close.Post (λ κs z e. z)
+pub recorder_close_result : Determines recorder_close.Post (λ κs z e. z)
 recorder_close_result = equated _ (λ κs a z e p. p.0)
 
-pub recorder_close_out : Determines recorder-close.Post (λ κs z e. e.1.0.now)
+pub recorder_close_out : Determines recorder_close.Post (λ κs z e. e.1.0.now)
 recorder_close_out = equated _ (λ κs a z e p. p.1)
 
 pub salvage_result : Determines salvage.Post (λ κs z e. z)
@@ -618,10 +603,10 @@ salvage_result = equated _ (λ κs a z e p. p.0)
 pub salvage_out : Determines salvage.Post (λ κs z e. e.1.0.now)
 salvage_out = equated _ (λ κs a z e p. p.1)
 
-pub blank_recording_result : Determines blank-recording.Post (λ κs z e. z)
+pub blank_recording_result : Determines blank_recording.Post (λ κs z e. z)
 blank_recording_result = determined (λ κs. judged) (λ κs. judged_apart) _ (λ κs a z e p. p.0)
 
-pub blank_recording_out : Determines blank-recording.Post (λ κs z e. e.1.0.now)
+pub blank_recording_out : Determines blank_recording.Post (λ κs z e. e.1.0.now)
 blank_recording_out = equated _ (λ κs a z e p. p.1)
 
 -- The call of crate commands.
@@ -632,29 +617,29 @@ command_result = determined (λ κs. command_as) (λ κs. command_apart) _ (λ �
 pub place_of_result : Determines place_of.Post (λ κs z e. z)
 place_of_result = equated _ (λ κs a z e p. p)
 
-pub free_place_result : Determines free-place.Post (λ κs z e. z)
+pub free_place_result : Determines free_place.Post (λ κs z e. z)
 free_place_result = equated _ (λ κs a z e p. p)
 
-pub book_empty_result : Determines book-empty.Post (λ κs z e. z)
+pub book_empty_result : Determines book_empty.Post (λ κs z e. z)
 book_empty_result = equated _ (λ κs a z e p. p)
 
-pub take_framed_result : Determines take-framed.Post (λ κs z e. z)
+pub take_framed_result : Determines take_framed.Post (λ κs z e. z)
 take_framed_result = equated _ (λ κs a z e p. p)
 
-pub book_take_result : Determines book-take.Post (λ κs z e. z)
+pub book_take_result : Determines book_take.Post (λ κs z e. z)
 book_take_result = equated _ (λ κs a z e p. p)
 
-pub book_close_result : Determines book-close.Post (λ κs z e. z)
+pub book_close_result : Determines book_close.Post (λ κs z e. z)
 book_close_result = equated _ (λ κs a z e p. p)
 
 -- The calls of the ledger.
 pub order_result : Determines order.Post (λ κs z e. z)
 order_result = determined (λ κs. ordered) (λ κs. ordered_apart) _ (λ κs a z e p. p)
 
-pub ledger_empty_result : Determines ledger-empty.Post (λ κs z e. z)
+pub ledger_empty_result : Determines ledger_empty.Post (λ κs z e. z)
 ledger_empty_result = equated _ (λ κs a z e p. p)
 
-pub muster_framed_result : Determines muster-framed.Post (λ κs z e. z)
+pub muster_framed_result : Determines muster_framed.Post (λ κs z e. z)
 muster_framed_result = equated _ (λ κs a z e p. p)
 
 pub muster_result : Determines muster.Post (λ κs z e. z)
@@ -667,24 +652,24 @@ reckon_result = equated _ (λ κs a z e p. p)
 pub bits_result : Determines bits.Post (λ κs z e. z)
 bits_result = equated _ (λ κs a z e p. p)
 
-pub put_big_out : Determines put-big.Post (λ κs z e. e.0.now)
+pub put_big_out : Determines put_big.Post (λ κs z e. e.0.now)
 put_big_out = equated _ (λ κs a z e p. p)
 
-pub put_number_out : Determines put-number.Post (λ κs z e. e.0.now)
+pub put_number_out : Determines put_number.Post (λ κs z e. e.0.now)
 put_number_out = equated _ (λ κs a z e p. p)
 
 -- The calls of crate encoding.
 pub encode_result : Determines encode.Post (λ κs z e. z)
 encode_result = equated _ (λ κs a z e p. p)
 
-pub mark_taken_result : Determines mark_taken_lem.Post (λ κs z e. z)
+pub mark_taken_result : Determines mark_taken.Post (λ κs z e. z)
 mark_taken_result = equated _ (λ κs a z e p. p)
 
 -- The calls of crate opening.
-pub write_header_result : Determines write-header.Post (λ κs z e. z)
+pub write_header_result : Determines write_header.Post (λ κs z e. z)
 write_header_result = determined (λ κs. judged) (λ κs. judged_apart) _ (λ κs a z e p. p.0)
 
-pub write_header_out : Determines write-header.Post (λ κs z e. e.1.1.1.1.1.0.now)
+pub write_header_out : Determines write_header.Post (λ κs z e. e.1.1.1.1.1.0.now)
 write_header_out = equated _ (λ κs a z e p. p.1)
 
 -- The calls of crate writing.
@@ -700,101 +685,101 @@ add_result = equated _ (λ κs a z e p. p.0)
 pub add_out : Determines add.Post (λ κs z e. e.1.1.0.now)
 add_out = equated _ (λ κs a z e p. p.1)
 
-pub add_scalar_result : Determines add-scalar.Post (λ κs z e. z)
+pub add_scalar_result : Determines add_scalar.Post (λ κs z e. z)
 add_scalar_result = equated _ (λ κs a z e p. p.0)
 
-pub add_scalar_out : Determines add-scalar.Post (λ κs z e. e.1.1.0.now)
+pub add_scalar_out : Determines add_scalar.Post (λ κs z e. e.1.1.0.now)
 add_scalar_out = equated _ (λ κs a z e p. p.1)
 
 pub close_result : Determines close.Post (λ κs z e. z)
 close_result = equated _ (λ κs a z e p. p)
 
 -- The calls of sums.
-pub shown_plus_result : Determines shown-plus.Post (λ κs z e. z)
+pub shown_plus_result : Determines shown_plus.Post (λ κs z e. z)
 shown_plus_result = equated _ (λ κs a z e p. p)
 
-pub shown_less_result : Determines shown-less.Post (λ κs z e. z)
+pub shown_less_result : Determines shown_less.Post (λ κs z e. z)
 shown_less_result = equated _ (λ κs a z e p. p)
 
-pub length_plus_result : Determines length-plus.Post (λ κs z e. z)
+pub length_plus_result : Determines length_plus.Post (λ κs z e. z)
 length_plus_result = determined (λ κs z. z.0) (λ κs. length_apart) _ (λ κs a z e p. p)
 
-pub length_plus_position_result : Determines length-plus-position.Post (λ κs z e. z)
+pub length_plus_position_result : Determines length_plus_position.Post (λ κs z e. z)
 length_plus_position_result = determined (λ κs z. z.0) (λ κs. position_apart) _ (λ κs a z e p. p)
 
-pub length_less_result : Determines length-less.Post (λ κs z e. z)
+pub length_less_result : Determines length_less.Post (λ κs z e. z)
 length_less_result = determined (λ κs z. z.0) (λ κs. length_apart) _ (λ κs a z e p. p)
 
-pub position_plus_result : Determines position-plus.Post (λ κs z e. z)
+pub position_plus_result : Determines position_plus.Post (λ κs z e. z)
 position_plus_result = determined (λ κs z. z.0) (λ κs. position_apart) _ (λ κs a z e p. p)
 
-pub position_less_result : Determines position-less.Post (λ κs z e. z)
+pub position_less_result : Determines position_less.Post (λ κs z e. z)
 position_less_result = determined (λ κs z. z.0) (λ κs. position_apart) _ (λ κs a z e p. p)
 
-pub position_less_position_result : Determines position-less-position.Post (λ κs z e. z)
+pub position_less_position_result : Determines position_less_position.Post (λ κs z e. z)
 position_less_position_result = determined (λ κs z. z.0) (λ κs. length_apart) _ (λ κs a z e p. p)
 
-pub duration_plus_result : Determines duration-plus.Post (λ κs z e. z)
+pub duration_plus_result : Determines duration_plus.Post (λ κs z e. z)
 duration_plus_result = determined (λ κs z. z.0) (λ κs. duration_apart) _ (λ κs a z e p. p)
 
-pub duration_plus_time_result : Determines duration-plus-time.Post (λ κs z e. z)
+pub duration_plus_time_result : Determines duration_plus_time.Post (λ κs z e. z)
 duration_plus_time_result = determined (λ κs z. z.0) (λ κs. time_apart) _ (λ κs a z e p. p)
 
-pub duration_less_result : Determines duration-less.Post (λ κs z e. z)
+pub duration_less_result : Determines duration_less.Post (λ κs z e. z)
 duration_less_result = determined (λ κs z. z.0) (λ κs. duration_apart) _ (λ κs a z e p. p)
 
-pub time_plus_result : Determines time-plus.Post (λ κs z e. z)
+pub time_plus_result : Determines time_plus.Post (λ κs z e. z)
 time_plus_result = determined (λ κs z. z.0) (λ κs. time_apart) _ (λ κs a z e p. p)
 
-pub time_less_result : Determines time-less.Post (λ κs z e. z)
+pub time_less_result : Determines time_less.Post (λ κs z e. z)
 time_less_result = determined (λ κs z. z.0) (λ κs. time_apart) _ (λ κs a z e p. p)
 
-pub time_less_time_result : Determines time-less-time.Post (λ κs z e. z)
+pub time_less_time_result : Determines time_less_time.Post (λ κs z e. z)
 time_less_time_result = determined (λ κs z. z.0) (λ κs. duration_apart) _ (λ κs a z e p. p)
 
-pub angle_plus_result : Determines angle-plus.Post (λ κs z e. z)
+pub angle_plus_result : Determines angle_plus.Post (λ κs z e. z)
 angle_plus_result = determined (λ κs z. z.0) (λ κs. angle_apart) _ (λ κs a z e p. p)
 
-pub angle_plus_direction_result : Determines angle-plus-direction.Post (λ κs z e. z)
+pub angle_plus_direction_result : Determines angle_plus_direction.Post (λ κs z e. z)
 angle_plus_direction_result = determined (λ κs z. z.0) (λ κs. direction_apart) _ (λ κs a z e p. p)
 
-pub angle_less_result : Determines angle-less.Post (λ κs z e. z)
+pub angle_less_result : Determines angle_less.Post (λ κs z e. z)
 angle_less_result = determined (λ κs z. z.0) (λ κs. angle_apart) _ (λ κs a z e p. p)
 
-pub direction_plus_result : Determines direction-plus.Post (λ κs z e. z)
+pub direction_plus_result : Determines direction_plus.Post (λ κs z e. z)
 direction_plus_result = determined (λ κs z. z.0) (λ κs. direction_apart) _ (λ κs a z e p. p)
 
-pub direction_less_result : Determines direction-less.Post (λ κs z e. z)
+pub direction_less_result : Determines direction_less.Post (λ κs z e. z)
 direction_less_result = determined (λ κs z. z.0) (λ κs. direction_apart) _ (λ κs a z e p. p)
 
-pub direction_less_direction_result : Determines direction-less-direction.Post (λ κs z e. z)
+pub direction_less_direction_result : Determines direction_less_direction.Post (λ κs z e. z)
 direction_less_direction_result = determined (λ κs z. z.0) (λ κs. angle_apart) _ (λ κs a z e p. p)
 
-pub temperature_plus_result : Determines temperature-plus.Post (λ κs z e. z)
+pub temperature_plus_result : Determines temperature_plus.Post (λ κs z e. z)
 temperature_plus_result = determined (λ κs z. z.0) (λ κs. temperature_apart) _ (λ κs a z e p. p)
 
-pub temperature_plus_absolute_temperature_result : Determines temperature-plus-absolute-temperature.Post (λ κs z e. z)
+pub temperature_plus_absolute_temperature_result : Determines temperature_plus_absolute_temperature.Post (λ κs z e. z)
 temperature_plus_absolute_temperature_result = determined (λ κs z. z.0) (λ κs. absolute_temperature_apart) _ (λ κs a z e p. p)
 
-pub temperature_less_result : Determines temperature-less.Post (λ κs z e. z)
+pub temperature_less_result : Determines temperature_less.Post (λ κs z e. z)
 temperature_less_result = determined (λ κs z. z.0) (λ κs. temperature_apart) _ (λ κs a z e p. p)
 
-pub absolute_temperature_plus_result : Determines absolute-temperature-plus.Post (λ κs z e. z)
+pub absolute_temperature_plus_result : Determines absolute_temperature_plus.Post (λ κs z e. z)
 absolute_temperature_plus_result = determined (λ κs z. z.0) (λ κs. absolute_temperature_apart) _ (λ κs a z e p. p)
 
-pub absolute_temperature_less_result : Determines absolute-temperature-less.Post (λ κs z e. z)
+pub absolute_temperature_less_result : Determines absolute_temperature_less.Post (λ κs z e. z)
 absolute_temperature_less_result = determined (λ κs z. z.0) (λ κs. absolute_temperature_apart) _ (λ κs a z e p. p)
 
-pub absolute_temperature_less_absolute_temperature_result : Determines absolute-temperature-less-absolute-temperature.Post (λ κs z e. z)
+pub absolute_temperature_less_absolute_temperature_result : Determines absolute_temperature_less_absolute_temperature.Post (λ κs z e. z)
 absolute_temperature_less_absolute_temperature_result = determined (λ κs z. z.0) (λ κs. temperature_apart) _ (λ κs a z e p. p)
 
-pub quantity_of_result : Determines quantity-of.Post (λ κs z e. z)
+pub quantity_of_result : Determines quantity_of.Post (λ κs z e. z)
 quantity_of_result = determined (λ κs. seen) (λ κs. seen_apart) _ (λ κs a z e p. p)
 
-pub add_quantities_result : Determines add-quantities.Post (λ κs z e. z)
+pub add_quantities_result : Determines add_quantities.Post (λ κs z e. z)
 add_quantities_result = determined (λ κs. seen) (λ κs. seen_apart) _ (λ κs a z e p. p)
 
-pub subtract_quantities_result : Determines subtract-quantities.Post (λ κs z e. z)
+pub subtract_quantities_result : Determines subtract_quantities.Post (λ κs z e. z)
 subtract_quantities_result = determined (λ κs. seen) (λ κs. seen_apart) _ (λ κs a z e p. p)
 
 pub sum_result : Determines sum.Post (λ κs z e. z)
@@ -804,45 +789,45 @@ pub difference_result : Determines difference.Post (λ κs z e. z)
 difference_result = determined (λ κs. valued) (λ κs. valued_apart) _ (λ κs a z e p. p)
 
 -- The calls of crate casting.
-pub give_value_result : Determines give-value.Post (λ κs z e. z)
+pub give_value_result : Determines give_value.Post (λ κs z e. z)
 give_value_result = equated _ (λ κs a z e p. p.0)
 
-pub give_value_answer : Determines give-value.Post (λ κs z e. e.1.0.now)
+pub give_value_answer : Determines give_value.Post (λ κs z e. e.1.0.now)
 give_value_answer = equated _ (λ κs a z e p. p.1)
 
-pub scalar_from_result : Determines scalar-from.Post (λ κs z e. z)
+pub scalar_from_result : Determines scalar_from.Post (λ κs z e. z)
 scalar_from_result = equated _ (λ κs a z e p. p)
 
 -- The calls of crate crossing.
-pub give_read_result : Determines give-read.Post (λ κs z e. z)
+pub give_read_result : Determines give_read.Post (λ κs z e. z)
 give_read_result = equated _ (λ κs a z e p. p.0)
 
-pub give_read_answer : Determines give-read.Post (λ κs z e. e.1.0.now)
+pub give_read_answer : Determines give_read.Post (λ κs z e. e.1.0.now)
 give_read_answer = equated _ (λ κs a z e p. p.1)
 
-pub give_length_result : Determines give-length.Post (λ κs z e. z)
+pub give_length_result : Determines give_length.Post (λ κs z e. z)
 give_length_result = equated _ (λ κs a z e p. p.0)
 
-pub give_length_answer : Determines give-length.Post (λ κs z e. e.1.0.now)
+pub give_length_answer : Determines give_length.Post (λ κs z e. e.1.0.now)
 give_length_answer = equated _ (λ κs a z e p. p.1)
 
-pub give_view_result : Determines give-view.Post (λ κs z e. z)
+pub give_view_result : Determines give_view.Post (λ κs z e. z)
 give_view_result = equated _ (λ κs a z e p. p.0)
 
-pub give_view_answer : Determines give-view.Post (λ κs z e. e.1.0.now)
+pub give_view_answer : Determines give_view.Post (λ κs z e. e.1.0.now)
 give_view_answer = equated _ (λ κs a z e p. p.1)
 
 -- The calls of crate writer_crossing.
-pub give_wrote_result : Determines give-wrote.Post (λ κs z e. z)
+pub give_wrote_result : Determines give_wrote.Post (λ κs z e. z)
 give_wrote_result = equated _ (λ κs a z e p. p.0)
 
-pub give_wrote_answer : Determines give-wrote.Post (λ κs z e. e.1.0.now)
+pub give_wrote_answer : Determines give_wrote.Post (λ κs z e. e.1.0.now)
 give_wrote_answer = equated _ (λ κs a z e p. p.1)
 
-pub writer_of_result : Determines Writer-of.Post (λ κs z e. z)
+pub writer_of_result : Determines writer_of.Post (λ κs z e. z)
 writer_of_result = equated _ (λ κs a z e p. p)
 
-pub count_type_result : Determines count-type.Post (λ κs z e. z)
+pub count_type_result : Determines count_type.Post (λ κs z e. z)
 count_type_result = equated _ (λ κs a z e p. p)
 
 -- The call of crate giving.
@@ -862,180 +847,180 @@ c_read_table = equated _ (λ κs a z e p. p.1.0)
 pub c_read_answer : Determines c_read.Post (λ κs z e. e.1.1.0.now)
 c_read_answer = equated _ (λ κs a z e p. p.1.1)
 
-pub c_judge_result : Determines c-judge.Post (λ κs z e. z)
+pub c_judge_result : Determines c_judge.Post (λ κs z e. z)
 c_judge_result = equated _ (λ κs a z e p. p.0)
 
-pub c_judge_answer : Determines c-judge.Post (λ κs z e. e.1.0.now)
+pub c_judge_answer : Determines c_judge.Post (λ κs z e. e.1.0.now)
 c_judge_answer = equated _ (λ κs a z e p. p.1)
 
-pub c_value_result : Determines c-value.Post (λ κs z e. z)
+pub c_value_result : Determines c_value.Post (λ κs z e. z)
 c_value_result = equated _ (λ κs a z e p. p.0)
 
-pub c_value_answer : Determines c-value.Post (λ κs z e. e.1.1.0.now)
+pub c_value_answer : Determines c_value.Post (λ κs z e. e.1.1.0.now)
 c_value_answer = equated _ (λ κs a z e p. p.1)
 
-pub c_view_result : Determines c-view.Post (λ κs z e. z)
+pub c_view_result : Determines c_view.Post (λ κs z e. z)
 c_view_result = equated _ (λ κs a z e p. p.0)
 
-pub c_view_answer : Determines c-view.Post (λ κs z e. e.1.1.0.now)
+pub c_view_answer : Determines c_view.Post (λ κs z e. e.1.1.0.now)
 c_view_answer = equated _ (λ κs a z e p. p.1)
 
-pub c_blank_result : Determines c-blank.Post (λ κs z e. z)
+pub c_blank_result : Determines c_blank.Post (λ κs z e. z)
 c_blank_result = equated _ (λ κs a z e p. p.0)
 
-pub c_blank_out : Determines c-blank.Post (λ κs z e. e.1.0.now)
+pub c_blank_out : Determines c_blank.Post (λ κs z e. e.1.0.now)
 c_blank_out = equated _ (λ κs a z e p. p.1.0)
 
-pub c_blank_answer : Determines c-blank.Post (λ κs z e. e.1.1.0.now)
+pub c_blank_answer : Determines c_blank.Post (λ κs z e. e.1.1.0.now)
 c_blank_answer = equated _ (λ κs a z e p. p.1.1)
 
 -- The calls of crate writer_exports.
-pub c_open_result : Determines c-open.Post (λ κs z e. z)
+pub c_open_result : Determines c_open.Post (λ κs z e. z)
 c_open_result = equated _ (λ κs a z e p. p.0)
 
-pub c_open_out : Determines c-open.Post (λ κs z e. e.1.1.1.1.1.1.0.now)
+pub c_open_out : Determines c_open.Post (λ κs z e. e.1.1.1.1.1.1.0.now)
 c_open_out = equated _ (λ κs a z e p. p.1.0)
 
-pub c_open_answer : Determines c-open.Post (λ κs z e. e.1.1.1.1.1.1.1.0.now)
+pub c_open_answer : Determines c_open.Post (λ κs z e. e.1.1.1.1.1.1.1.0.now)
 c_open_answer = equated _ (λ κs a z e p. p.1.1)
 
-pub c_add_result : Determines c-add.Post (λ κs z e. z)
+pub c_add_result : Determines c_add.Post (λ κs z e. z)
 c_add_result = equated _ (λ κs a z e p. p.0)
 
-pub c_add_out : Determines c-add.Post (λ κs z e. e.1.1.1.1.1.0.now)
+pub c_add_out : Determines c_add.Post (λ κs z e. e.1.1.1.1.1.0.now)
 c_add_out = equated _ (λ κs a z e p. p.1.0)
 
-pub c_add_answer : Determines c-add.Post (λ κs z e. e.1.1.1.1.1.1.0.now)
+pub c_add_answer : Determines c_add.Post (λ κs z e. e.1.1.1.1.1.1.0.now)
 c_add_answer = equated _ (λ κs a z e p. p.1.1)
 
-pub c_add_scalar_result : Determines c-add-scalar.Post (λ κs z e. z)
+pub c_add_scalar_result : Determines c_add_scalar.Post (λ κs z e. z)
 c_add_scalar_result = equated _ (λ κs a z e p. p.0)
 
-pub c_add_scalar_out : Determines c-add-scalar.Post (λ κs z e. e.1.1.1.1.1.1.1.1.1.0.now)
+pub c_add_scalar_out : Determines c_add_scalar.Post (λ κs z e. e.1.1.1.1.1.1.1.1.1.0.now)
 c_add_scalar_out = equated _ (λ κs a z e p. p.1.0)
 
-pub c_add_scalar_answer : Determines c-add-scalar.Post (λ κs z e. e.1.1.1.1.1.1.1.1.1.1.0.now)
+pub c_add_scalar_answer : Determines c_add_scalar.Post (λ κs z e. e.1.1.1.1.1.1.1.1.1.1.0.now)
 c_add_scalar_answer = equated _ (λ κs a z e p. p.1.1)
 
-pub c_close_result : Determines c-close.Post (λ κs z e. z)
+pub c_close_result : Determines c_close.Post (λ κs z e. z)
 c_close_result = equated _ (λ κs a z e p. p.0)
 
-pub c_close_answer : Determines c-close.Post (λ κs z e. e.1.1.1.1.0.now)
+pub c_close_answer : Determines c_close.Post (λ κs z e. e.1.1.1.1.0.now)
 c_close_answer = equated _ (λ κs a z e p. p.1)
 
 -- The calls of crate boundary_recordings.
-pub c_recording_open_result : Determines c-recording-open.Post (λ κs z e. z)
+pub c_recording_open_result : Determines c_recording_open.Post (λ κs z e. z)
 c_recording_open_result = equated _ (λ κs a z e p. p.0)
 
-pub c_recording_open_answer : Determines c-recording-open.Post (λ κs z e. e.1.0.now)
+pub c_recording_open_answer : Determines c_recording_open.Post (λ κs z e. e.1.0.now)
 c_recording_open_answer = equated _ (λ κs a z e p. p.1)
 
-pub c_recording_open_into_result : Determines c-recording-open-into.Post (λ κs z e. z)
+pub c_recording_open_into_result : Determines c_recording_open_into.Post (λ κs z e. z)
 c_recording_open_into_result = equated _ (λ κs a z e p. p.0)
 
-pub c_recording_open_into_table : Determines c-recording-open-into.Post (λ κs z e. e.1.0.now)
+pub c_recording_open_into_table : Determines c_recording_open_into.Post (λ κs z e. e.1.0.now)
 c_recording_open_into_table = equated _ (λ κs a z e p. p.1.0)
 
-pub c_recording_open_into_answer : Determines c-recording-open-into.Post (λ κs z e. e.1.1.0.now)
+pub c_recording_open_into_answer : Determines c_recording_open_into.Post (λ κs z e. e.1.1.0.now)
 c_recording_open_into_answer = equated _ (λ κs a z e p. p.1.1)
 
-pub c_recording_ask_result : Determines c-recording-ask.Post (λ κs z e. z)
+pub c_recording_ask_result : Determines c_recording_ask.Post (λ κs z e. z)
 c_recording_ask_result = equated _ (λ κs a z e p. p.0)
 
-pub c_recording_ask_answer : Determines c-recording-ask.Post (λ κs z e. e.1.1.0.now)
+pub c_recording_ask_answer : Determines c_recording_ask.Post (λ κs z e. e.1.1.0.now)
 c_recording_ask_answer = equated _ (λ κs a z e p. p.1)
 
-pub c_salvage_result : Determines c-salvage.Post (λ κs z e. z)
+pub c_salvage_result : Determines c_salvage.Post (λ κs z e. z)
 c_salvage_result = equated _ (λ κs a z e p. p.0)
 
-pub c_salvage_out : Determines c-salvage.Post (λ κs z e. e.1.0.now)
+pub c_salvage_out : Determines c_salvage.Post (λ κs z e. e.1.0.now)
 c_salvage_out = equated _ (λ κs a z e p. p.1.0)
 
-pub c_salvage_answer : Determines c-salvage.Post (λ κs z e. e.1.1.0.now)
+pub c_salvage_answer : Determines c_salvage.Post (λ κs z e. e.1.1.0.now)
 c_salvage_answer = equated _ (λ κs a z e p. p.1.1)
 
 -- The calls of crate boundary_commands.
-pub c_command_result : Determines c-command.Post (λ κs z e. z)
+pub c_command_result : Determines c_command.Post (λ κs z e. z)
 c_command_result = equated _ (λ κs a z e p. p.0)
 
-pub c_command_answer : Determines c-command.Post (λ κs z e. e.1.0.now)
+pub c_command_answer : Determines c_command.Post (λ κs z e. e.1.0.now)
 c_command_answer = equated _ (λ κs a z e p. p.1)
 
 -- The calls of crate boundary_recorder.
-pub c_recording_add_result : Determines c-recording-add.Post (λ κs z e. z)
+pub c_recording_add_result : Determines c_recording_add.Post (λ κs z e. z)
 c_recording_add_result = equated _ (λ κs a z e p. p.0)
 
-pub c_recording_add_out : Determines c-recording-add.Post (λ κs z e. e.1.1.1.1.0.now)
+pub c_recording_add_out : Determines c_recording_add.Post (λ κs z e. e.1.1.1.1.0.now)
 c_recording_add_out = equated _ (λ κs a z e p. p.1.0)
 
-pub c_recording_add_answer : Determines c-recording-add.Post (λ κs z e. e.1.1.1.1.1.0.now)
+pub c_recording_add_answer : Determines c_recording_add.Post (λ κs z e. e.1.1.1.1.1.0.now)
 c_recording_add_answer = equated _ (λ κs a z e p. p.1.1)
 
-pub c_recording_close_result : Determines c-recording-close.Post (λ κs z e. z)
+pub c_recording_close_result : Determines c_recording_close.Post (λ κs z e. z)
 c_recording_close_result = equated _ (λ κs a z e p. p.0)
 
-pub c_recording_close_out : Determines c-recording-close.Post (λ κs z e. e.1.1.1.0.now)
+pub c_recording_close_out : Determines c_recording_close.Post (λ κs z e. e.1.1.1.0.now)
 c_recording_close_out = equated _ (λ κs a z e p. p.1.0)
 
-pub c_recording_close_answer : Determines c-recording-close.Post (λ κs z e. e.1.1.1.1.0.now)
+pub c_recording_close_answer : Determines c_recording_close.Post (λ κs z e. e.1.1.1.1.0.now)
 c_recording_close_answer = equated _ (λ κs a z e p. p.1.1)
 
 -- The calls of crate boundary_sums.
-pub c_sum_result : Determines c-sum.Post (λ κs z e. z)
+pub c_sum_result : Determines c_sum.Post (λ κs z e. z)
 c_sum_result = equated _ (λ κs a z e p. p.0)
 
-pub c_sum_answer : Determines c-sum.Post (λ κs z e. e.1.1.1.1.1.1.1.1.1.1.0.now)
+pub c_sum_answer : Determines c_sum.Post (λ κs z e. e.1.1.1.1.1.1.1.1.1.1.0.now)
 c_sum_answer = equated _ (λ κs a z e p. p.1)
 
-pub c_difference_result : Determines c-difference.Post (λ κs z e. z)
+pub c_difference_result : Determines c_difference.Post (λ κs z e. z)
 c_difference_result = equated _ (λ κs a z e p. p.0)
 
-pub c_difference_answer : Determines c-difference.Post (λ κs z e. e.1.1.1.1.1.1.1.1.1.1.0.now)
+pub c_difference_answer : Determines c_difference.Post (λ κs z e. e.1.1.1.1.1.1.1.1.1.1.0.now)
 c_difference_answer = equated _ (λ κs a z e p. p.1)
 
 -- The calls of crate boundary_books.
-pub book_of_result : Determines book-of.Post (λ κs z e. z)
+pub book_of_result : Determines book_of.Post (λ κs z e. z)
 book_of_result = equated _ (λ κs a z e p. p)
 
-pub put_book_numbers : Determines put-book.Post (λ κs z e. e.1.0.now)
+pub put_book_numbers : Determines put_book.Post (λ κs z e. e.1.0.now)
 put_book_numbers = equated _ (λ κs a z e p. p)
 
 -- The calls of crate boundary_senders.
-pub c_take_result : Determines c-take.Post (λ κs z e. z)
+pub c_take_result : Determines c_take.Post (λ κs z e. z)
 c_take_result = equated _ (λ κs a z e p. p.0)
 
-pub c_take_book : Determines c-take.Post (λ κs z e. e.0.now)
+pub c_take_book : Determines c_take.Post (λ κs z e. e.0.now)
 c_take_book = equated _ (λ κs a z e p. p.1.0)
 
-pub c_take_answer : Determines c-take.Post (λ κs z e. e.1.1.0.now)
+pub c_take_answer : Determines c_take.Post (λ κs z e. e.1.1.0.now)
 c_take_answer = equated _ (λ κs a z e p. p.1.1)
 
-pub c_close_sender_result : Determines c-close-sender.Post (λ κs z e. z)
+pub c_close_sender_result : Determines c_close_sender.Post (λ κs z e. z)
 c_close_sender_result = equated _ (λ κs a z e p. p.0)
 
-pub c_close_sender_book : Determines c-close-sender.Post (λ κs z e. e.0.now)
+pub c_close_sender_book : Determines c_close_sender.Post (λ κs z e. e.0.now)
 c_close_sender_book = equated _ (λ κs a z e p. p.1.0)
 
-pub c_close_sender_answer : Determines c-close-sender.Post (λ κs z e. e.1.1.1.0.now)
+pub c_close_sender_answer : Determines c_close_sender.Post (λ κs z e. e.1.1.1.0.now)
 c_close_sender_answer = equated _ (λ κs a z e p. p.1.1)
 
 -- The calls of crate boundary_ledger.
-pub c_muster_result : Determines c-muster.Post (λ κs z e. z)
+pub c_muster_result : Determines c_muster.Post (λ κs z e. z)
 c_muster_result = equated _ (λ κs a z e p. p.0)
 
-pub c_muster_decks : Determines c-muster.Post (λ κs z e. e.0.now)
+pub c_muster_decks : Determines c_muster.Post (λ κs z e. e.0.now)
 c_muster_decks = equated _ (λ κs a z e p. p.1.0)
 
-pub c_muster_book : Determines c-muster.Post (λ κs z e. e.1.0.now)
+pub c_muster_book : Determines c_muster.Post (λ κs z e. e.1.0.now)
 c_muster_book = equated _ (λ κs a z e p. p.1.1.0)
 
-pub c_muster_answer : Determines c-muster.Post (λ κs z e. e.1.1.1.0.now)
+pub c_muster_answer : Determines c_muster.Post (λ κs z e. e.1.1.1.0.now)
 c_muster_answer = equated _ (λ κs a z e p. p.1.1.1)
 
-pub c_reckon_result : Determines c-reckon.Post (λ κs z e. z)
+pub c_reckon_result : Determines c_reckon.Post (λ κs z e. z)
 c_reckon_result = equated _ (λ κs a z e p. p.0)
 
-pub c_reckon_answer : Determines c-reckon.Post (λ κs z e. e.1.0.now)
+pub c_reckon_answer : Determines c_reckon.Post (λ κs z e. e.1.0.now)
 c_reckon_answer = equated _ (λ κs a z e p. p.1)
 
 -- The calls of crate pieces.
@@ -1058,8 +1043,8 @@ listing_result = equated _ (λ κs a z e p. p.1.0)
 pub listing_out : Determines listing.Post (λ κs z e. e.1.1.0.now)
 listing_out = equated _ (λ κs a z e p. p.1.1)
 
-pub first_line_result : Determines first-line.Post (λ κs z e. z)
+pub first_line_result : Determines first_line.Post (λ κs z e. z)
 first_line_result = equated _ (λ κs a z e p. p.1.0)
 
-pub first_line_out : Determines first-line.Post (λ κs z e. e.1.0.now)
+pub first_line_out : Determines first_line.Post (λ κs z e. e.1.0.now)
 first_line_out = equated _ (λ κs a z e p. p.1.1)
