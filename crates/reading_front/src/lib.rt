@@ -1,5 +1,7 @@
 // What stands before the payload of a message, judged: its length, its header, and whether there is room for its
 // fields.
+#![tactic(auto)]
+
 ghost use Rattle.std.specs.Prelude.{◌≡◌};
 ghost use Rattle.sim0mq.specs.Answer.{refused};
 ghost use Rattle.reading_header.specs.Frames.{told};
@@ -36,8 +38,7 @@ pub fn opened(message: &[u8], lent: Lent) -> reading_header::Answer
         return closed(8, none);
     }
     let h = header(message, none);
-    let said = h.said;
-    match said {
+    match h.said {
         Said::Refused(_) => h,
         Said::Accepted(e) => {
             if enough(lent, e.fields) {
