@@ -1,4 +1,6 @@
 // Reading: the header, then the part after it; with a table, or with none.
+#![tactic(auto)]
+
 ghost use Rattle.std.specs.Prelude.{◌≡◌, ◌+◌, ◌*◌, ◌≤◌, length, take};
 ghost use Rattle.sim0mq.specs.Header.{most_fields};
 ghost use Rattle.sim0mq.specs.Table.{row_size, stored};
