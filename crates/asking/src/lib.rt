@@ -1,4 +1,6 @@
 // Asking: the field k of a message, read afresh, and a view of its value bytes.
+#![tactic(auto)]
+
 ghost use Rattle.std.specs.Prelude.{◌≡◌, ◌+◌};
 ghost use Rattle.reading_fields.specs.Items.{fielded, seen};
 ghost use Rattle.asking.specs.Asking.{asked, view_of, view_place, field_in};
