@@ -1,5 +1,7 @@
 // Looking into the book: the place of a sender, and the first that is free. The list of senders is lent to a lookup
 // that finds an entry by id.
+#![tactic(auto)]
+
 ghost use Rattle.std.specs.Prelude.{◌≡◌, ◌≤◌, ◌<◌, length};
 ghost use Rattle.senders_book.specs.Book.{id_bytes, alike as alike_to, same_id, differs, entry_in, place_of, free_place};
 
