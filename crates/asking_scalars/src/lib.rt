@@ -1,4 +1,6 @@
 // The scalar value of the field k of a message, read afresh.
+#![tactic(auto)]
+
 ghost use Rattle.std.specs.Prelude.{◌≡◌, ◌+◌, ◌<◌, ◌≤◌, length};
 ghost use Rattle.reading_fields.specs.Items.{seen};
 ghost use Rattle.asking_scalars.specs.Scalars.{mark_at, Standing, scalar_of, value as value_of, valued};
