@@ -38,7 +38,8 @@ pub fn opened(message: &[u8], lent: Lent) -> reading_header::Answer
         return closed(8, none);
     }
     let h = header(message, none);
-    match h.said {
+    let said = h.said;
+    match said {
         Said::Refused(_) => h,
         Said::Accepted(e) => {
             if enough(lent, e.fields) {
