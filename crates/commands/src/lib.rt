@@ -1,4 +1,6 @@
 // Is the other program's message one of the manual's commands?
+#![tactic(auto)]
+
 ghost use Rattle.std.specs.Prelude.{◌≡◌, List, ◌+◌, ◌-◌, ◌*◌, ◌<◌, ◌≤◌, length, get_or};
 ghost use Rattle.sim0mq.specs.Answer.{big};
 ghost use Rattle.sim0mq.specs.Field as F;
