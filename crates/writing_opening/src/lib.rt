@@ -1,4 +1,6 @@
 // The opening of a message: it is judged whole, and then its header is put at the front of a lent buffer.
+#![tactic(auto)]
+
 ghost use Rattle.std.specs.Prelude.{◌≡◌, ◌≤◌, length};
 ghost use Rattle.sim0mq.specs.Answer.{length_of};
 ghost use Rattle.sim0mq.specs.Views.{judged};
