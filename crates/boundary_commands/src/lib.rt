@@ -48,8 +48,7 @@ fn numbered(said: Commanded) -> Judged
 }
 
 // Which command the message is: answers the number of its row, in the 3 numbers of `length_numbers`.
-#[unsafe(no_mangle)]
-pub extern "C" fn sim0mq_command(message: &[u8], answer: &mut [u64]) -> u32
+pub fn sim0mq_command(message: &[u8], answer: &mut [u64]) -> u32
     ensures returned { result ≡ returned 3 answer.old (length_numbers (commanded message.now)) }
     ensures answered { answer.new
         ≡ answer_after 3 answer.old (length_numbers (commanded message.now)) }

@@ -26,8 +26,7 @@ const READ: usize = 21;
 const BLANK: usize = 3;
 
 // Reads the message, and stores its rows in the table once it is accepted; answers the 21 numbers of `read_numbers`.
-#[unsafe(no_mangle)]
-pub extern "C" fn sim0mq_read(message: &[u8], table: &mut [u32], answer: &mut [u64]) -> u32
+pub fn sim0mq_read(message: &[u8], table: &mut [u32], answer: &mut [u64]) -> u32
     ensures returned { result ≡ returned 21 answer.old
         (read_numbers (answered (reading_of (table_of (length table.old)) message.now))) }
     ensures stored { table.new
@@ -45,8 +44,7 @@ pub extern "C" fn sim0mq_read(message: &[u8], table: &mut [u32], answer: &mut [u
 }
 
 // Judges the message as reading does, with no table; answers the same 21 numbers.
-#[unsafe(no_mangle)]
-pub extern "C" fn sim0mq_judge(message: &[u8], answer: &mut [u64]) -> u32
+pub fn sim0mq_judge(message: &[u8], answer: &mut [u64]) -> u32
     ensures returned { result ≡ returned 21 answer.old (read_numbers (answered (reading_of no_table message.now))) }
     ensures answered { answer.new
         ≡ answer_after 21 answer.old (read_numbers (answered (reading_of no_table message.now))) }
@@ -55,8 +53,7 @@ pub extern "C" fn sim0mq_judge(message: &[u8], answer: &mut [u64]) -> u32
 }
 
 // The value of field k, where it is a scalar, in the 7 numbers of `value_numbers`.
-#[unsafe(no_mangle)]
-pub extern "C" fn sim0mq_value(message: &[u8], k: u64, answer: &mut [u64]) -> u32
+pub fn sim0mq_value(message: &[u8], k: u64, answer: &mut [u64]) -> u32
     ensures returned { result ≡ returned 7 answer.old (value_numbers (value_of message.now k)) }
     ensures answered { answer.new
         ≡ answer_after 7 answer.old (value_numbers (value_of message.now k)) }
@@ -65,8 +62,7 @@ pub extern "C" fn sim0mq_value(message: &[u8], k: u64, answer: &mut [u64]) -> u3
 }
 
 // The place of field k's first value byte, and how many there are, in the 4 numbers of `view_numbers`.
-#[unsafe(no_mangle)]
-pub extern "C" fn sim0mq_view(message: &[u8], k: u64, answer: &mut [u64]) -> u32
+pub fn sim0mq_view(message: &[u8], k: u64, answer: &mut [u64]) -> u32
     ensures returned { result ≡ returned 4 answer.old (view_numbers (asked message.now k)) }
     ensures answered { answer.new
         ≡ answer_after 4 answer.old (view_numbers (asked message.now k)) }
@@ -76,8 +72,7 @@ pub extern "C" fn sim0mq_view(message: &[u8], k: u64, answer: &mut [u64]) -> u32
 
 // Copies the message to `out`, with zero in every payload value byte; answers its length, in the 3 numbers of
 // `length_numbers`.
-#[unsafe(no_mangle)]
-pub extern "C" fn sim0mq_blank(message: &[u8], out: &mut [u8], answer: &mut [u64]) -> u32
+pub fn sim0mq_blank(message: &[u8], out: &mut [u8], answer: &mut [u64]) -> u32
     ensures returned { result ≡ returned 3 answer.old
         (length_numbers (length_of (blanking (length out.old) message.now))) }
     ensures copied { out.new

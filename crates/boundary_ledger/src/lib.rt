@@ -126,13 +126,7 @@ fn give_reckoned(r: Reckoned, answer: &mut [u64]) -> u32
 }
 
 // Musters the message by ledger and book; answers the sender's place in the book, in the 3 numbers of `length_numbers`.
-#[unsafe(no_mangle)]
-pub extern "C" fn sim0mq_muster(
-    decks: &mut [u16],
-    book: &mut [u64],
-    message: &[u8],
-    answer: &mut [u64],
-) -> u32
+pub fn sim0mq_muster(decks: &mut [u16], book: &mut [u64], message: &[u8], answer: &mut [u64]) -> u32
     ensures returned { result ≡ returned 3 answer.old
         (length_numbers (place_in (mustering_in decks.old book.old message.now))) }
     ensures decks { decks.new
@@ -154,8 +148,7 @@ pub extern "C" fn sim0mq_muster(
 }
 
 // How many heads are on each deck after a recording, in the 20 numbers of `reckoned_numbers`.
-#[unsafe(no_mangle)]
-pub extern "C" fn sim0mq_reckon(recording: &[u8], answer: &mut [u64]) -> u32
+pub fn sim0mq_reckon(recording: &[u8], answer: &mut [u64]) -> u32
     ensures returned { result ≡ returned 20 answer.old (reckoned_numbers (reckoned_as (reckoning recording.now))) }
     ensures answered { answer.new
         ≡ answer_after 20 answer.old (reckoned_numbers (reckoned_as (reckoning recording.now))) }

@@ -62,8 +62,7 @@ fn give_recorded(r: Recorded, answer: &mut [u64]) -> u32
 
 // Adds a message to the recording of the state of these numbers, in `out`; answers the bytes written so far and the
 // state, in the 6 numbers of `recorded_numbers`.
-#[unsafe(no_mangle)]
-pub extern "C" fn sim0mq_recording_add(
+pub fn sim0mq_recording_add(
     written: u64,
     messages: u64,
     closed: u8,
@@ -89,8 +88,7 @@ pub extern "C" fn sim0mq_recording_add(
 }
 
 // Closes the recording of the state of these numbers, in `out`; answers as adding does.
-#[unsafe(no_mangle)]
-pub extern "C" fn sim0mq_recording_close(
+pub fn sim0mq_recording_close(
     written: u64,
     messages: u64,
     closed: u8,

@@ -89,8 +89,7 @@ fn give_salvage(said: Salvaged, answer: &mut [u64]) -> u32
 }
 
 // Opens a recording; answers how many messages it has, in the 3 numbers of `length_numbers`.
-#[unsafe(no_mangle)]
-pub extern "C" fn sim0mq_recording_open(recording: &[u8], answer: &mut [u64]) -> u32
+pub fn sim0mq_recording_open(recording: &[u8], answer: &mut [u64]) -> u32
     ensures returned { result ≡ returned 3 answer.old (length_numbers (count_of (opening no_table recording.now))) }
     ensures answered { answer.new
         ≡ answer_after 3 answer.old (length_numbers (count_of (opening no_table recording.now))) }
@@ -100,12 +99,7 @@ pub extern "C" fn sim0mq_recording_open(recording: &[u8], answer: &mut [u64]) ->
 
 // Opens a recording, and stores where each message stands in the table once all are accepted; answers the same 3
 // numbers.
-#[unsafe(no_mangle)]
-pub extern "C" fn sim0mq_recording_open_into(
-    recording: &[u8],
-    table: &mut [u32],
-    answer: &mut [u64],
-) -> u32
+pub fn sim0mq_recording_open_into(recording: &[u8], table: &mut [u32], answer: &mut [u64]) -> u32
     ensures returned { result ≡ returned 3 answer.old
         (length_numbers (count_of (opening (table_of (length table.old)) recording.now))) }
     ensures stored { table.new
@@ -123,8 +117,7 @@ pub extern "C" fn sim0mq_recording_open_into(
 }
 
 // Asks for message k of a recording; answers where it stands, in the 4 numbers of `place_numbers`.
-#[unsafe(no_mangle)]
-pub extern "C" fn sim0mq_recording_ask(recording: &[u8], k: u64, answer: &mut [u64]) -> u32
+pub fn sim0mq_recording_ask(recording: &[u8], k: u64, answer: &mut [u64]) -> u32
     ensures returned { result ≡ returned 4 answer.old (place_numbers (asking recording.now k)) }
     ensures answered { answer.new
         ≡ answer_after 4 answer.old (place_numbers (asking recording.now k)) }
@@ -134,8 +127,7 @@ pub extern "C" fn sim0mq_recording_ask(recording: &[u8], k: u64, answer: &mut [u
 
 // Writes the recording of the messages at the front of a file to `out`; answers its length, what was kept and dropped,
 // and why it stopped, in the 8 numbers of `salvage_numbers`.
-#[unsafe(no_mangle)]
-pub extern "C" fn sim0mq_salvage(file: &[u8], out: &mut [u8], answer: &mut [u64]) -> u32
+pub fn sim0mq_salvage(file: &[u8], out: &mut [u8], answer: &mut [u64]) -> u32
     ensures returned { result ≡ returned 8 answer.old
         (salvage_numbers (salvaged_as (salvage_of newest (length out.old) file.now))) }
     ensures written { out.new

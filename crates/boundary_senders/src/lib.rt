@@ -58,8 +58,7 @@ fn close_in(book: &mut [u64], code: usize, id: &[u8]) -> Judged
 }
 
 // Takes the message into the book; answers the sender's place, in the 3 numbers of `length_numbers`.
-#[unsafe(no_mangle)]
-pub extern "C" fn sim0mq_take(book: &mut [u64], message: &[u8], answer: &mut [u64]) -> u32
+pub fn sim0mq_take(book: &mut [u64], message: &[u8], answer: &mut [u64]) -> u32
     ensures returned { result ≡ returned 3 answer.old
         (length_numbers (place_in (taking_in book.old message.now))) }
     ensures left { book.new
@@ -77,13 +76,7 @@ pub extern "C" fn sim0mq_take(book: &mut [u64], message: &[u8], answer: &mut [u6
 }
 
 // Closes the sender of this type code and these value bytes; answers whether it was held, in the same numbers.
-#[unsafe(no_mangle)]
-pub extern "C" fn sim0mq_close_sender(
-    book: &mut [u64],
-    code: u64,
-    id: &[u8],
-    answer: &mut [u64],
-) -> u32
+pub fn sim0mq_close_sender(book: &mut [u64], code: u64, id: &[u8], answer: &mut [u64]) -> u32
     ensures returned { result ≡ returned 3 answer.old
         (length_numbers (held_in (closing_in book.old code id.now))) }
     ensures left { book.new

@@ -22,8 +22,7 @@ fn operand(kind: u8, bits: u64, unit: u8, currency: u16, display: u8) -> Scalar
 }
 
 // The sum of two scalars, in the 7 numbers of `value_numbers`.
-#[unsafe(no_mangle)]
-pub extern "C" fn sim0mq_sum(
+pub fn sim0mq_sum(
     kind: u8,
     bits: u64,
     unit: u8,
@@ -50,8 +49,7 @@ pub extern "C" fn sim0mq_sum(
 }
 
 // The difference of two scalars, the second taken from the first, in the same numbers.
-#[unsafe(no_mangle)]
-pub extern "C" fn sim0mq_difference(
+pub fn sim0mq_difference(
     kind: u8,
     bits: u64,
     unit: u8,

@@ -23,8 +23,7 @@ const ADD_SCALAR: usize = 7;
 
 // Opens a message in `out`, with the type `kind` of its count where `stated` is not 0; answers the bytes written so far
 // and the writer's state, in the 7 numbers of `wrote_numbers`.
-#[unsafe(no_mangle)]
-pub extern "C" fn sim0mq_open(
+pub fn sim0mq_open(
     ids: &[u8],
     number: i64,
     status: u8,
@@ -59,8 +58,7 @@ pub extern "C" fn sim0mq_open(
 }
 
 // Adds an encoded field to the state of these numbers; answers as opening does.
-#[unsafe(no_mangle)]
-pub extern "C" fn sim0mq_add(
+pub fn sim0mq_add(
     written: u64,
     declared: u64,
     added: u64,
@@ -87,8 +85,7 @@ pub extern "C" fn sim0mq_add(
 }
 
 // Adds a scalar of this kind, these bits and this mark to the state of these numbers; answers as opening does.
-#[unsafe(no_mangle)]
-pub extern "C" fn sim0mq_add_scalar(
+pub fn sim0mq_add_scalar(
     written: u64,
     declared: u64,
     added: u64,
@@ -125,14 +122,7 @@ pub extern "C" fn sim0mq_add_scalar(
 }
 
 // Closes the message of the state of these numbers; answers as opening does.
-#[unsafe(no_mangle)]
-pub extern "C" fn sim0mq_close(
-    written: u64,
-    declared: u64,
-    added: u64,
-    closed: u8,
-    answer: &mut [u64],
-) -> u32
+pub fn sim0mq_close(written: u64, declared: u64, added: u64, closed: u8, answer: &mut [u64]) -> u32
     ensures returned { result ≡ returned 7 answer.old (close_numbers (writer_of written declared added closed)) }
     ensures answered { answer.new
         ≡ answer_after 7 answer.old (close_numbers (writer_of written declared added closed)) }
