@@ -1,5 +1,7 @@
 // Answers of reading, asking and blanking as numbers, stored in the answer that a caller lends: what the calls for C
 // and Rust hand over.
+#![tactic(auto)]
+
 ghost use Rattle.std.specs.Prelude.{◌≡◌, ◌<◌, get_or};
 ghost use mathlib.Core.List.{flat_map};
 ghost use Rattle.sim0mq.specs.Views.{judged};
