@@ -1,5 +1,7 @@
 // Blanking: a copy of a message that has zero in every payload value byte, so that it shows how the message is built
 // and nothing of what it says.
+#![tactic(auto)]
+
 ghost use Rattle.std.specs.Prelude.{◌≡◌, ◌+◌, ◌*◌, ◌≤◌, length, drop};
 ghost use Rattle.sim0mq.specs.Answer.{length_of};
 ghost use Rattle.sim0mq.specs.Header.{most_fields};
