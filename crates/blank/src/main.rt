@@ -1,42 +1,42 @@
 // Writes the blanked copy of the message on standard input, or the line that `list` prints where the message is
 // refused.
-use libc::{STDERR_FILENO, STDOUT_FILENO};
+#![tactic(auto)]
+
 use programs_input::Input;
 use reading::Reading;
 use sim0mq::{Judged, LIMIT, Refusal};
+use std::io;
 
 // Writes `bytes` to standard output; a line to standard error where that cannot be done.
-fn write(bytes: &[u8]) {
-    let written = io::write_all(STDOUT_FILENO, bytes);
-    if !written {
-        io::write_all(STDERR_FILENO, b"blank: cannot write standard output\n");
+fn write(rt: &(impl Print + Eprint), bytes: &[u8]) -> io::Result<()> {
+    match rt.write_all(bytes) {
+        Ok(()) => Ok(()),
+        Err(_) => rt.eprintln("blank: cannot write standard output"),
     }
 }
 
 // Writes the line of a refusal.
-fn refused(refusal: Refusal) {
+fn refused(rt: &(impl Print + Eprint), refusal: Refusal) -> io::Result<()> {
     let mut line = [0u8; 72];
     let n = programs_listing::first_line(Reading::Refused(refusal), &mut line);
-    write(&line[..n]);
+    write(rt, &line[..n])
 }
 
 // Writes the blanked copy of `message`, or the line of its refusal.
-fn print(message: &[u8]) {
+fn print(rt: &(impl Print + Eprint), message: &[u8]) -> io::Result<()> {
     let mut copy = [0u8; LIMIT];
     match blanking::blank(message, &mut copy) {
-        Judged::Accepted(length) => write(&copy[0..length]),
-        Judged::Refused(refusal) => refused(refusal),
+        Judged::Accepted(length) => write(rt, &copy[0..length]),
+        Judged::Refused(refusal) => refused(rt, refusal),
     }
 }
 
 // Blanks standard input, of which one byte more than a message may have is read; a line to standard error where it
 // cannot be read.
-fn main() {
+fn main(rt: HostRuntime) -> io::Result<()> {
     let mut bytes = [0u8; LIMIT + 1];
-    match programs_input::fill(&mut bytes) {
-        Input::Bytes(n) => print(&bytes[0..n]),
-        Input::Failed => {
-            io::write_all(STDERR_FILENO, b"blank: cannot read standard input\n");
-        }
+    match programs_input::fill(&mut rt.stdin(), &mut bytes) {
+        Input::Bytes(n) => print(&rt, &bytes[0..n]),
+        Input::Failed => rt.eprintln("blank: cannot read standard input"),
     }
 }

@@ -1,34 +1,34 @@
 // Writes the blanked copy of the recording on standard input, or the line of its refusal.
-use libc::{STDERR_FILENO, STDOUT_FILENO};
+#![tactic(auto)]
+
 use programs_input::Input;
 use reading::Reading;
 use recordings_blanking::blank_recording;
 use sim0mq::{Judged, Refusal};
+use std::alloc::{AllocError, Global};
+use std::io;
 
-// How many bytes a recording has at most: three and a half mebibytes, since it and its copy stand on the stack.
+// How many bytes a recording has at most: three and a half mebibytes.
 const RECORDING: usize = 3670016;
 
 // Writes `bytes` to standard output; a line to standard error where that cannot be done.
-fn write(bytes: &[u8]) {
-    let written = io::write_all(STDOUT_FILENO, bytes);
-    if !written {
-        io::write_all(
-            STDERR_FILENO,
-            b"blank_recording: cannot write standard output\n",
-        );
+fn write(rt: &(impl Print + Eprint), bytes: &[u8]) -> io::Result<()> {
+    match rt.write_all(bytes) {
+        Ok(()) => Ok(()),
+        Err(_) => rt.eprintln("blank_recording: cannot write standard output"),
     }
 }
 
 // Writes the line of a refusal.
-fn refused(refusal: Refusal) {
+fn refused(rt: &(impl Print + Eprint), refusal: Refusal) -> io::Result<()> {
     let mut line = [0u8; 72];
     let n = programs_listing::first_line(Reading::Refused(refusal), &mut line);
-    write(&line[..n]);
+    write(rt, &line[..n])
 }
 
 // Room for the recording, and one byte more.
-fn room() -> [u8; RECORDING + 1] {
-    [0u8; RECORDING + 1]
+fn room(alloc: Global) -> Result<Vec<u8>, AllocError> {
+    vec![in alloc; 0; RECORDING + 1]
 }
 
 // The first n bytes; none where there are not so many.
@@ -40,33 +40,24 @@ fn front(bytes: &[u8], n: usize) -> &[u8] {
 }
 
 // Writes the blanked copy of `recording`, or the line of its refusal.
-fn print(recording: &[u8]) {
-    let mut copy = room();
+fn print(rt: &(impl Print + Eprint + AllocGlobal), recording: &[u8]) -> io::Result<()> {
+    let mut copy = room(rt.alloc())?;
     match blank_recording(recording, &mut copy) {
-        Judged::Accepted(length) => write(front(&copy, length)),
-        Judged::Refused(refusal) => refused(refusal),
+        Judged::Accepted(length) => write(rt, front(&copy, length)),
+        Judged::Refused(refusal) => refused(rt, refusal),
     }
 }
 
 // Blanks standard input; a line to standard error where it cannot be read, or has more bytes than there is room for.
-fn main() {
-    let mut bytes = room();
-    match programs_input::fill(&mut bytes) {
+fn main(rt: HostRuntime) -> io::Result<()> {
+    let mut bytes = room(rt.alloc())?;
+    match programs_input::fill(&mut rt.stdin(), &mut bytes) {
         Input::Bytes(n) => {
             if RECORDING < n {
-                io::write_all(
-                    STDERR_FILENO,
-                    b"blank_recording: the recording has more than 3670016 bytes\n",
-                );
-                return;
+                return rt.eprintln("blank_recording: the recording has more than 3670016 bytes");
             }
-            print(&bytes[0..n]);
+            print(&rt, &bytes[0..n])
         }
-        Input::Failed => {
-            io::write_all(
-                STDERR_FILENO,
-                b"blank_recording: cannot read standard input\n",
-            );
-        }
+        Input::Failed => rt.eprintln("blank_recording: cannot read standard input"),
     }
 }

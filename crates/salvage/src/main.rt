@@ -1,50 +1,35 @@
 // Brings back a recording whose upload was cut: standard input is the file, standard output the new recording, and
 // standard error a line of what was kept, what was dropped and why it stopped there.
-use libc::{STDERR_FILENO, STDOUT_FILENO};
+#![tactic(auto)]
+
 use programs_input::Input;
 use recordings_format::{ENTRY, MOST, TRAILER};
 use recordings_fronts::Stop;
 use recordings_salvaging::{Report, Salvaged};
 use sim0mq::Refusal;
+use std::alloc::{AllocError, Global};
+use std::io;
 
-// How many bytes a file has at most: three and a half mebibytes, since it and its recording stand on the stack.
+// How many bytes a file has at most: three and a half mebibytes.
 const FILE: usize = 3670016;
 
 // How many bytes the tail of a recording has at most: its entries and the trailer.
 const TAIL: usize = MOST * ENTRY + TRAILER;
 
-// Writes a text to standard error.
-fn say(text: &[u8]) {
-    io::write_all(STDERR_FILENO, text);
-}
-
-// Writes a number to standard error, after a space.
-fn figure(n: usize) {
-    say(b" ");
-    io::print_decimal(STDERR_FILENO, n as u64);
-}
-
 // Writes a refusal.
-fn refused(r: Refusal) {
-    say(b" refused");
-    figure(r.number as usize);
-    say(b" at");
-    figure(r.place);
+fn refused(rt: &impl Eprint, r: Refusal) -> io::Result<()> {
+    eprint!(rt; " refused {} at {}", r.number, r.place)
 }
 
 // Writes the report: how many messages were kept, how many bytes dropped, and why it stopped.
-fn report(r: Report) {
-    say(b"kept");
-    figure(r.kept);
-    say(b" dropped");
-    figure(r.dropped);
-    let stop = r.stop;
-    match stop {
-        Stop::AtEnd => say(b" stopped at the end"),
-        Stop::AtMost => say(b" stopped at 4096 messages"),
-        Stop::AtFault(f) => refused(f),
+fn report(rt: &impl Eprint, r: Report) -> io::Result<()> {
+    eprint!(rt; "kept {} dropped {}", r.kept, r.dropped)?;
+    match r.stop {
+        Stop::AtEnd => rt.eprint(" stopped at the end")?,
+        Stop::AtMost => rt.eprint(" stopped at 4096 messages")?,
+        Stop::AtFault(f) => refused(rt, f)?,
     }
-    say(b"\n");
+    rt.eprint("\n")
 }
 
 // The first n bytes; none where there are not so many.
@@ -56,50 +41,49 @@ fn front(bytes: &[u8], n: usize) -> &[u8] {
 }
 
 // Writes the recording to standard output; a line to standard error where that cannot be done.
-fn write(recording: &[u8]) {
-    let written = io::write_all(STDOUT_FILENO, recording);
-    if !written {
-        say(b"salvage: cannot write standard output\n");
+fn write(rt: &(impl Print + Eprint), recording: &[u8]) -> io::Result<()> {
+    match rt.write_all(recording) {
+        Ok(()) => Ok(()),
+        Err(_) => rt.eprintln("salvage: cannot write standard output"),
     }
 }
 
 // Room for the new recording.
-fn room() -> [u8; FILE + TAIL] {
-    [0u8; FILE + TAIL]
+fn room(alloc: Global) -> Result<Vec<u8>, AllocError> {
+    vec![in alloc; 0; FILE + TAIL]
 }
 
 // Writes the recording of what can be kept of the file, and the report.
-fn save(file: &[u8]) {
-    let mut out = room();
+fn save(rt: &(impl Print + Eprint + AllocGlobal), file: &[u8]) -> io::Result<()> {
+    let mut out = room(rt.alloc())?;
     match recordings_salvaging::salvage(file, &mut out) {
         Salvaged::Refused(r) => {
-            say(b"salvage:");
-            refused(r);
-            say(b"\n");
+            rt.eprint("salvage:")?;
+            refused(rt, r)?;
+            rt.eprint("\n")
         }
         Salvaged::Saved(r) => {
-            write(front(&out, r.length));
-            report(r);
+            write(rt, front(&out, r.length))?;
+            report(rt, r)
         }
     }
 }
 
 // Room for the file, and one byte more.
-fn bytes() -> [u8; FILE + 1] {
-    [0u8; FILE + 1]
+fn bytes(alloc: Global) -> Result<Vec<u8>, AllocError> {
+    vec![in alloc; 0; FILE + 1]
 }
 
 // Salvages standard input; a line to standard error where it cannot be read, or has more bytes than there is room for.
-fn main() {
-    let mut bytes = bytes();
-    match programs_input::fill(&mut bytes) {
+fn main(rt: HostRuntime) -> io::Result<()> {
+    let mut bytes = bytes(rt.alloc())?;
+    match programs_input::fill(&mut rt.stdin(), &mut bytes) {
         Input::Bytes(n) => {
             if FILE < n {
-                say(b"salvage: the file has more than 3670016 bytes\n");
-                return;
+                return rt.eprintln("salvage: the file has more than 3670016 bytes");
             }
-            save(&bytes[0..n]);
+            save(&rt, &bytes[0..n])
         }
-        Input::Failed => say(b"salvage: cannot read standard input\n"),
+        Input::Failed => rt.eprintln("salvage: cannot read standard input"),
     }
 }

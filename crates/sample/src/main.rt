@@ -1,11 +1,13 @@
 // Writes the message of the manual's section 2.3.6 to standard output: a worked example of the writer.
-use libc::{STDERR_FILENO, STDOUT_FILENO};
+#![tactic(auto)]
+
 use sim0mq::Judged;
 use sim0mq_kinds::Scalar;
+use std::io;
 use writing::{CountType, Writer};
 
 // Writes the message, which has 77 bytes; a line to standard error where that cannot be done.
-fn main() {
+fn main(rt: HostRuntime) -> io::Result<()> {
     let mut out = [0u8; 77];
     let ids = b"\x09\0\0\0\x09IDVV.14.2\x09\0\0\0\x04MC.1\x09\0\0\0\x05MM1.4\x09\0\0\0\x06DSOL.3";
     let opened = Writer::open(ids, 124, 2, 1, CountType::Stated(1), &mut out);
@@ -15,14 +17,10 @@ fn main() {
     let closed = full.close();
     let said = closed.said;
     match said {
-        Judged::Accepted(_) => {
-            let written = io::write_all(STDOUT_FILENO, &out);
-            if !written {
-                io::write_all(STDERR_FILENO, b"sample: cannot write standard output\n");
-            }
-        }
-        Judged::Refused(_) => {
-            io::write_all(STDERR_FILENO, b"sample: the message is refused\n");
-        }
+        Judged::Accepted(_) => match rt.write_all(&out) {
+            Ok(()) => Ok(()),
+            Err(_) => rt.eprintln("sample: cannot write standard output"),
+        },
+        Judged::Refused(_) => rt.eprintln("sample: the message is refused"),
     }
 }
