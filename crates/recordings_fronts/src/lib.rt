@@ -1,4 +1,6 @@
 // Messages found from the front of some bytes, one after the other.
+#![tactic(auto)]
+
 ghost use Rattle.std.specs.Prelude.{◌≡◌, length};
 ghost use Rattle.sim0mq.specs.Message.{limit, no_table, reading as reading_of};
 ghost use Rattle.sim0mq.specs.Table.{stored};
