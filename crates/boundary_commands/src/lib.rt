@@ -1,5 +1,7 @@
 // The library's call for C and Rust that tells which command a message is: it answers as the other calls do, in numbers
 // that it stores in a slice that the caller lends.
+#![tactic(auto)]
+
 ghost use Rattle.std.specs.Prelude.{◌≡◌};
 ghost use Rattle.sim0mq.specs.Views.{judged};
 ghost use Rattle.commands_page.specs.Judging.{commanded};
