@@ -1,4 +1,6 @@
 // Opening a recording, and asking for a message in it.
+#![tactic(auto)]
+
 ghost use Rattle.std.specs.Prelude.{◌≡◌, ◌+◌, ◌*◌, ◌≤◌, ◌<◌, length};
 ghost use Rattle.sim0mq.specs.Message.{limit, no_table, table as table_of};
 ghost use Rattle.sim0mq.specs.Table.{placed, stored};
