@@ -1,4 +1,6 @@
 // Encoding: scalars as the bytes that a message has of them.
+#![tactic(auto)]
+
 ghost use Rattle.std.specs.Prelude.{◌≡◌, true, ◌+◌, ◌≤◌, length};
 ghost use Rattle.sim0mq.specs.Answer.{fine};
 ghost use Rattle.sim0mq.specs.Mark.{kind_of};

@@ -1,0 +1,25 @@
+-- A float that differs from itself is a NaN; any other is written as its mark and its bits.
+use borrow.Author.Rules.{rules}
+use mathlib.Core.Path.{refl, ◌∙◌}
+use Rattle.asking_scalars.specs.Bytes.{scalar_bytes, mark_bytes}
+use Rattle.sim0mq_kinds.specs.declared.Scalar.TheVariants.{FloatUnit}
+use Rattle.sim0mq_kinds.proofs.Nan.{no_nan, is_nan_lem}
+use Rattle.writing_encoding.specs.Scalars.{code_of, scalar_text, writable}
+use Rattle.writing_encoding.proofs.EncodeCases.{unwritable, marked_written, bits_fit}
+use Rattle.writing_encoding.proofs.float_with.Goals as goal
+
+pub returns-then-x : goal.returns-then-x
+unfolding writable
+returns-then-x c = let args = c.args in unwritable (FloatUnit args.x args.mark) (simp (is_nan_lem args.x c.if-x.true))
+
+pub float_to_bits-x : goal.float_to_bits-x
+float_to_bits-x c = rw (no_nan _ c.if-x.false) tt
+
+pub overflow_cast-x : goal.overflow_cast-x
+overflow_cast-x c = bits_fit c.args.x (search rules)
+
+pub returns : goal.returns
+unfolding writable scalar_text code_of mark_bytes scalar_bytes
+returns c =
+    let args = c.args in
+    c.marked.ensures ∙ marked_written (FloatUnit args.x args.mark) 25 args.mark 4 _ (simp (no_nan args.x c.if-x.false)) refl
