@@ -1,5 +1,6 @@
 // The deck ledger. What it is stands in specs/, what is promised of it is proved in proofs/; here are its types and its
 // two limits.
+#![tactic(auto)]
 
 // The decks of a ledger, which are numbered from 0.
 pub const DECKS: usize = 16;

@@ -1,5 +1,7 @@
 // The book of senders: up to 32 of them, with the last message number taken from each. A message that comes again is
 // refused.
+#![tactic(auto)]
+
 ghost use Rattle.std.specs.Prelude.{◌≡◌, map, ◌≤◌, length};
 ghost use Rattle.sim0mq.specs.Answer.{refused as refusal};
 ghost use Rattle.sim0mq.specs.Views.{judged};
