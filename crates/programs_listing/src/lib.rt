@@ -3,6 +3,8 @@
 // The text is put into a lent buffer by the calls of `pieces`. The longest text has a first line of at most 72 bytes
 // and a row of at most 37 for each field (no number of a row is above the most bytes of a message), so 16,384 bytes are
 // always enough.
+#![tactic(auto)]
+
 ghost use Rattle.std.specs.Prelude.{◌≡◌, ◌*◌, ◌≤◌, length};
 ghost use Rattle.io.specs.Counts.{IsPrefixLen};
 ghost use Rattle.sim0mq.specs.Table.{row_size};
@@ -85,6 +87,7 @@ fn refused(refusal: Refusal, out: &mut [u8]) -> usize
 }
 
 // The place after the rows of the first `fields` fields, put from `from` on.
+#[tactic(auto, unfolding(sim0mq::specs::Table::row_size))]
 fn rows(fields: usize, table: &[u32], out: &mut [u8], from: usize) -> usize
     requires { row_size * fields ≤ length table.now }
     ensures { buffer out.new result

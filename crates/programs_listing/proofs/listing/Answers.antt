@@ -17,8 +17,7 @@ use Rattle.reading.specs.declared.Reading.TheVariants.{Accepted, Refused}
 use Rattle.programs_listing.specs.Put.{Buffer, put_all, out_after, bytes_before, bytes_written}
 use Rattle.programs_listing.specs.Text.{accepted_text, rows_text, line_text, whole_text}
 use Rattle.programs_listing.proofs.PutCases.{put_append, put_told}
-use Rattle.programs_listing.proofs.listing.Statement.{statement}
-use Rattle.programs_listing.proofs.listing.Tie as tie
+use Rattle.programs_listing.proofs.listing.Goals as goal
 
 -- a table too short for the rows, and one that is long enough
 short : (said : Reading) (f : Found) (table : List ℕ) → said ≡ Accepted f → length table / row_size < f.fields → whole_text said table ≡ []
@@ -44,71 +43,31 @@ both : (start mid end : Buffer) (f : Found) (table : List ℕ) → mid ≡ put_a
     → end ≡ put_all start (accepted_text f ++ rows_text table f.fields)
 both start mid end f table e g = g ∙ (rw e (sym (put_append start (accepted_text f) (rows_text table f.fields))))
 
-enum-known-said : tie.Need-enum-known-said
-enum-known-said c = search rules
-
-returns : tie.Need-returns
+pub returns-then-table-found : goal.returns-then-table-found
 unfolding row_size
-returns c =
-    let m = c.before.before.before in
-    let a = m.before.before.before.before.args in
-    (search rules, nothing _ _ (short _ m.said.given.0.0 a.table.now m.said.given.1 c.if1.true))
+returns-then-table-found c =
+    let none = nothing _ _ (short _ c.in-Accepted.found c.args.table.now c.in-Accepted.is c.if-table-found.true) in
+    record { counts = search rules; answer = none.0; text = none.1 }
 
-accepted-requires : tie.Need-accepted-requires
-accepted-requires c κs = search rules
-
-rows-requires : tie.Need-rows-requires
+pub rows-end-requires : goal.rows-end-requires
 unfolding row_size
-rows-requires c κs = search rules
+rows-end-requires c = search rules
 
-whole-requires : tie.Need-whole-requires
-whole-requires c κs = search rules
-
-enum_told : tie.Need-enum-told
-enum_told c = search rules
-
-first-line-requires : tie.Need-first-line-requires
-first-line-requires c κs = search rules
-
-same_length : tie.Need-same-length
-same_length c = search rules
-
-returns-2 : tie.Need-returns-2
+pub returns-else-table-found : goal.returns-else-table-found
 unfolding row_size
-returns-2 c =
-    let r = c.before.before.before.before in
-    let l = r.before.before.before.before in
-    let i = l.before.before in
-    let m = i.before.before.before in
-    let a = m.before.before.before.before.args in
-    let f = m.said.given.0.0 in
-    let e = long _ f a.table.now m.said.given.1 i.if1.false in
-    let g = both _ _ _ f a.table.now l.accepted.ensures r.rows.ensures in
-    (c.whole.ensures.0, put_told _ _ _ _ _ _ e g c.whole.ensures.1)
+returns-else-table-found c =
+    let f = c.in-Accepted.found in
+    let e = long _ f c.args.table.now c.in-Accepted.is c.if-table-found.false in
+    let g = both _ _ _ f c.args.table.now c.accepted-at.ensures c.rows-end.ensures in
+    let told = put_told _ _ _ _ _ _ e g c.whole.ensures.value in
+    record { counts = c.whole.ensures.prefix_len; answer = told.0; text = told.1 }
 
-same-length-2 : tie.Need-same-length-2
-same-length-2 c = search rules
-
-returns-3 : tie.Need-returns-3
-returns-3 c =
-    let l = c.before.before in
-    let a = l.before.before.before.before.before.before.args in
-    let e = one_line _ _ a.table.now l.before.before.enum_told.given.1 in
-    let told = l.first-line.ensures in
-    (told.0, (told.1.0 ∙ ap (bytes_written a.out.now) e, told.1.1 ∙ ap (out_after a.out.now) e))
-
-pub listing-spec : {M : Type 1} → statement M
-listing-spec =
-    tie.close
-    (tie.spec
-    enum-known-said
-    returns
-    accepted-requires
-    rows-requires
-    whole-requires
-    enum_told
-    first-line-requires
-    same_length
-    returns-2
-    same-length-2
-    returns-3)
+pub returns-in-Refused : goal.returns-in-Refused
+returns-in-Refused c =
+    let e = one_line _ _ c.args.table.now c.in-Refused.is in
+    let told = c.first_line.ensures in
+    record {
+      counts = told.counts;
+      answer = told.answer ∙ ap (bytes_written c.args.out.now) e;
+      text = told.text ∙ ap (out_after c.args.out.now) e;
+    }
