@@ -1,4 +1,6 @@
 // Asking for a message of a recording that lies afar, by its length and its last bytes.
+#![tactic(auto)]
+
 ghost use Rattle.std.specs.Prelude.{◌≡◌, ◌<◌};
 ghost use Rattle.recordings.specs.Recordings.{entry_in};
 ghost use Rattle.recordings_index.specs.Tail.{index_in};
