@@ -1,7 +1,7 @@
 -- A tail put piece by piece, each where the one before ends, is the tail.
 use Prim.Native.Nat.{ℕ, zero, suc, ◌+◌, ◌-◌, ◌*◌, ◌≤◌, ◌<◌}
 use mathlib.Core.Path.{◌≡◌, refl, ap, sym, ◌∙◌, subst}
-use mathlib.Core.Bool.{Bool, true, false, ◌&&◌, and_false}
+use mathlib.Core.Bool.{Bool, true, false, ◌&&◌, and-false}
 use mathlib.Core.List.{List, [], ◌∷◌, ◌++◌, map, append_assoc, append-nil}
 use native.Mathlib.Omega.{arith}
 use native.Mathlib.Numerals.{add-one}
@@ -82,7 +82,7 @@ short_nth : (e : Edition) (ns : List ℕ) (k : ℕ) → k < length ns → e.most
 unfolding short
 short_nth e [] k h over = absurd (not-suc-le-zero h)
 short_nth e (n ∷ ns) zero h over = simp (lt-leb n e.most over)
-short_nth e (n ∷ ns) (suc k) h over = rw (short_nth e ns k (omega arith) over) (and_false (leb n e.most))
+short_nth e (n ∷ ns) (suc k) h over = rw (short_nth e ns k (omega arith) over) (and-false (leb n e.most))
 
 short_step : (e : Edition) (ns : List ℕ) (k : ℕ) → k < length ns → get_or ns k 0 ≤ e.most → short e (take k ns) ≡ true
     → short e (take (suc k) ns) ≡ true
@@ -113,7 +113,7 @@ module _ {ns : List ℕ} {at left k : ℕ} (c : Counts ns at left k) where
   counts_over h over =
       let sum = c.sum in
       let other : eqb (total ns) at ≡ false = ne_eqb (total ns) at (λ e. omega (arith, total_nth ns k h)) in
-      sym (rw other (and_false (short newest ns)))
+      sym (rw other (and-false (short newest ns)))
 
   pub counts_turn : (size : ℕ) → k < length ns → size ≡ get_or ns k 0 → size ≤ limit → size ≤ left
       → Counts ns at (left - size) (k + 1)

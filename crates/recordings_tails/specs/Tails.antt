@@ -1,6 +1,6 @@
 -- The tail of a recording, its index and its trailer, written after the messages (02, Tickets 1 and 7).
 use Rattle.std.specs.Prelude.{ℕ, ◌+◌, ◌*◌, ◌≤◌, ◌≡◌, Bool, true, ◌&&◌, List, [], ◌∷◌, leb, eqb, length}
-use Rattle.sim0mq.specs.Answer.{Answer, fine, refused, ◌>>=◌, ◌>>◌, guard}
+use Rattle.sim0mq.specs.Answer.{Answer, fine, refused, ◌>>◌, guard}
 use Rattle.dividing.specs.Run.{total}
 use Rattle.recordings_format.specs.Edition.{Edition, newest, most_messages, entry_size}
 use Rattle.recordings_format.specs.Text.{tail_text}

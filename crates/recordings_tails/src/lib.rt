@@ -1,4 +1,6 @@
 // The tail of a recording: the index of its messages, and the trailer.
+#![tactic(auto)]
+
 ghost use Rattle.std.specs.Prelude.{◌≡◌, ◌+◌, ◌≤◌, length};
 ghost use Rattle.sim0mq.specs.Table.{placed};
 ghost use Rattle.sim0mq.specs.Views.{judged};
