@@ -1,5 +1,7 @@
 // The deck ledger: how many heads are on each of 16 decks. A muster message is judged by the ledger, taken by the book
 // of senders, and then applied.
+#![tactic(auto)]
+
 ghost use Rattle.std.specs.Prelude.{◌≡◌, map, ◌≤◌, ◌<◌};
 ghost use Rattle.sim0mq.specs.Answer.{refused as refusal};
 ghost use Rattle.reading_header.specs.Frames.{shown};

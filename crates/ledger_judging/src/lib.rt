@@ -1,4 +1,6 @@
 // The ledger's judgement of a muster message: what it does, or the refusal.
+#![tactic(auto)]
+
 ghost use Rattle.std.specs.Prelude.{◌≡◌, ◌+◌, ◌≤◌, length};
 ghost use Rattle.sim0mq.specs.Answer.{fine, refused as refusal};
 ghost use Rattle.sim0mq.specs.Field.{outline as outline_of};

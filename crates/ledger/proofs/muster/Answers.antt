@@ -1,0 +1,19 @@
+-- ledger::muster: the message is read once, and mustered by the frames and the number of fields that reading found.
+use mathlib.Core.Path.{ap, ◌∙◌}
+use Rattle.ledger.specs.Ledger.{after_mustering}
+use Rattle.ledger.proofs.CallCases.{muster_stops, muster_goes}
+use Rattle.ledger.proofs.muster.Goals as goal
+
+pub returns-in-Refused : goal.returns-in-Refused
+returns-in-Refused c =
+    let a = c.args in
+    c.refused.ensures
+    ∙ ap (after_mustering a.ledger a.book)
+    (muster_stops _ _ _ _ c.judge-a.ensures _ c.in-Refused.is)
+
+pub returns-in-Accepted : goal.returns-in-Accepted
+returns-in-Accepted c =
+    let a = c.args in
+    c.muster_framed.ensures
+    ∙ ap (after_mustering a.ledger a.book)
+    (muster_goes _ _ _ _ c.judge-a.ensures _ c.in-Accepted.is)
