@@ -1,4 +1,3 @@
--- The fields from here on answer for all of them, whatever fields the table holds.
 use Prim.Native.Nat.{◌-◌, ◌≤◌}
 use mathlib.Core.Path.{◌≡◌}
 use mathlib.Core.List.{List}

@@ -1,4 +1,3 @@
--- The rows from here on answer for the page.
 use Prim.Native.Nat.{◌-◌, ◌≤◌}
 use mathlib.Core.Path.{◌≡◌}
 use lib.ListN.{drop}

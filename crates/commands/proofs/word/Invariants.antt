@@ -1,4 +1,3 @@
--- What is left of the word from here on answers for the whole word.
 use Prim.Native.Nat.{◌+◌, ◌-◌, ◌≤◌}
 use mathlib.Core.Path.{◌≡◌}
 use lib.ListN.{length, drop}

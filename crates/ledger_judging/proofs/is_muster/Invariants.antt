@@ -1,4 +1,3 @@
--- ledger_judging::is_muster: the bytes are compared one by one, and those before place k are the same.
 use Prim.Native.Nat.{◌-◌, ◌≤◌}
 use mathlib.Core.Path.{◌≡◌}
 use mathlib.Core.Bool.{true}

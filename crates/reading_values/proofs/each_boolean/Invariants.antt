@@ -1,4 +1,3 @@
--- What is left to judge from here on answers for the whole; each turn judges one byte.
 use Prim.Native.Nat.{◌+◌, ◌≤◌}
 use mathlib.Core.Path.{◌≡◌}
 use lib.ListN.{length}

@@ -1,4 +1,3 @@
--- None of the bytes so far is above the most so far.
 use Prim.Native.Nat.{◌+◌, ◌-◌, ◌≤◌}
 use lib.ListN.{length}
 use Rattle.reading_values.specs.Values.{NoneAbove}

@@ -1,4 +1,3 @@
--- What is left to judge from here on answers for the whole; each turn judges one mark.
 use mathlib.Core.Path.{◌≡◌}
 use Rattle.sim0mq.specs.Mark.{marks}
 use Rattle.sim0mq_marks.proofs.marks.Given as goal

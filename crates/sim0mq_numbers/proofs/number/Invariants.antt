@@ -1,4 +1,3 @@
--- What is read so far is the number of the bytes so far, and has no more bytes than they.
 use Prim.Native.Nat.{◌+◌, ◌-◌, ◌^◌, ◌<◌, ◌≤◌}
 use mathlib.Core.Path.{◌≡◌}
 use lib.ListN.{length}
