@@ -1,4 +1,6 @@
 // Scalars as numbers, stored in the answer that a caller lends, and numbers as scalars.
+#![tactic(auto)]
+
 ghost use Rattle.std.specs.Prelude.{◌≡◌, ◌∷◌, ◌<◌, get_or};
 ghost use Rattle.std.specs.Float.{binary32, binary64};
 ghost use Rattle.std.specs.Float.Ieee.{to_bits};
@@ -56,6 +58,7 @@ fn marked(kind: u64, bits: u64, m: Mark) -> [u64; 7]
 }
 
 // The numbers of a granted value.
+#[tactic(auto, unfolding(crate::specs::Casting::scalar_numbers))]
 fn scalar_numbers(v: Scalar) -> [u64; 7]
     ensures { result ≡ 0 ∷ 0 ∷ scalar_numbers v }
 {
@@ -97,6 +100,7 @@ pub fn give_value(said: Value, answer: &mut [u64]) -> u32
 }
 
 // The scalar of a kind of 8 bits.
+#[tactic(auto, unfolding(crate::specs::Casting::from8))]
 fn from_8(kind: u8, x: u8) -> Scalar
     ensures { result ≡ from8 kind x }
 {
@@ -116,6 +120,7 @@ fn from_8(kind: u8, x: u8) -> Scalar
 }
 
 // The scalar of a kind of at most 16 bits.
+#[tactic(auto, unfolding(crate::specs::Casting::from16))]
 fn from_16(kind: u8, x: u16) -> Scalar
     ensures { result ≡ from16 kind x }
 {
@@ -132,6 +137,7 @@ fn from_16(kind: u8, x: u16) -> Scalar
 }
 
 // The scalar of a kind of at most 32 bits.
+#[tactic(auto, unfolding(crate::specs::Casting::from32))]
 fn from_32(kind: u8, x: u32, mark: Mark) -> Scalar
     ensures { result ≡ from32 kind x mark }
 {
@@ -151,6 +157,7 @@ fn from_32(kind: u8, x: u32, mark: Mark) -> Scalar
 }
 
 // The scalar of this kind, these bits and this mark; not a number, where there is none.
+#[tactic(auto, unfolding(crate::specs::Casting::scalar_from))]
 pub fn scalar_from(kind: u8, x: u64, mark: Mark) -> Scalar
     ensures { result ≡ scalar_from kind x mark }
 {
