@@ -1,5 +1,7 @@
 // How many heads are on each deck after a recording: its messages are mustered in order, from the empty ledger and the
 // empty book.
+#![tactic(auto)]
+
 ghost use Rattle.std.specs.Prelude.{◌≡◌, ◌+◌, ◌≤◌, ◌<◌, length, take, drop, get_or};
 ghost use Rattle.sim0mq.specs.Answer.{refused as refusal};
 ghost use Rattle.sim0mq.specs.Message.{limit};

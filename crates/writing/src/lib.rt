@@ -1,4 +1,6 @@
 // Writing: a message is opened, its fields are added one by one, and it is closed.
+#![tactic(auto)]
+
 ghost use Rattle.std.specs.Prelude.{◌≡◌, length, true};
 ghost use Rattle.sim0mq.specs.Answer.{refused as refusal};
 ghost use Rattle.writing_opening.specs.Opening.{fitting, buffer_after};
