@@ -1,4 +1,6 @@
 // Writing a recording, message by message.
+#![tactic(auto)]
+
 ghost use Rattle.std.specs.Prelude.{◌≡◌, true, ◌≤◌, ◌<◌, length, take};
 ghost use Rattle.sim0mq.specs.Answer.{refused as refusal};
 ghost use Rattle.writing_opening.specs.Opening.{buffer_after};
