@@ -1,6 +1,6 @@
 -- Salvage (02, Ticket 7): the messages found from the front of a file, with a new index and trailer after them.
 use Rattle.std.specs.Prelude.{ℕ, ◌-◌, List, ◌++◌, leb, length, take}
-use Rattle.sim0mq.specs.Answer.{Answer, fine, refused, ◌>>=◌, ◌>>◌, guard}
+use Rattle.sim0mq.specs.Answer.{Answer, fine, refused, ◌>>◌, guard}
 use Rattle.sim0mq.specs.Table.{stored}
 use Rattle.dividing.specs.Run.{Stop, Run, run_from, total}
 use Rattle.recordings_format.specs.Edition.{Edition, most_messages}

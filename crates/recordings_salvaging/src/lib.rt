@@ -1,4 +1,6 @@
 // Salvage after a cut upload: the messages at the front of a file, with a new index and trailer after them.
+#![tactic(auto)]
+
 ghost use Rattle.std.specs.Prelude.{◌≡◌, length};
 ghost use Rattle.recordings_format.specs.Edition.{newest};
 ghost use Rattle.recordings_salvaging.specs.Salvage.{salvage as salvage_of, output_after};
