@@ -26,6 +26,7 @@ moved_back (g ∷ gs) n i (later v) = let r = moved_back gs n i v in (r.0, r.1, 
 
 moved_on : (gs : List Field) (n j : ℕ) → ValueByte gs j → ValueByte (map (moved n) gs) (n + j)
 unfolding moved
+moved_on [] n j v = absurd (not-suc-le-zero (some_field v))
 moved_on (g ∷ gs) n j (here h k) = here {f = moved n g} {i = n + j} (omega arith) (omega arith)
 moved_on (g ∷ gs) n j (later v) = later (moved_on gs n j v)
 
@@ -44,6 +45,7 @@ side (f ∷ fs) gs n i (later v) = go (side fs gs n i v)
     go (second j e w) = second j e w
 
 left : (fs gs : List Field) (i : ℕ) → ValueByte fs i → ValueByte (fs ++ gs) i
+left [] gs i v = absurd (not-suc-le-zero (some_field v))
 left (f ∷ fs) gs i (here h k) = here h k
 left (f ∷ fs) gs i (later v) = later (left fs gs i v)
 
@@ -53,6 +55,7 @@ right (f ∷ fs) gs i v = later (right fs gs i v)
 
 -- a value byte of fields inside of n bytes is one of these
 pub value_inside : (fs : List Field) (n i : ℕ) → Each (Inside n) fs → ValueByte fs i → i < n
+value_inside [] n i _ v = absurd (not-suc-le-zero (some_field v))
 value_inside (f ∷ fs) n i (more a b) (here h k) = omega arith
 value_inside (f ∷ fs) n i (more a b) (later v) = value_inside fs n i b v
 

@@ -1,5 +1,7 @@
 // Blanking a recording: a copy that has zero in every value byte of every message, so that it shows how a day's
 // messages are built and nothing of what they say.
+#![tactic(auto)]
+
 ghost use Rattle.std.specs.Prelude.{◌≡◌, ◌≤◌, ◌<◌, length, get_or};
 ghost use Rattle.sim0mq.specs.Answer.{length_of};
 ghost use Rattle.sim0mq.specs.Blank.{output_after};
