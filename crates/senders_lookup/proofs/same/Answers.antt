@@ -1,5 +1,6 @@
 -- senders_lookup::same: type code and length are compared, then the bytes up to that length, which the arrays have.
 use Rattle.senders_book.proofs.IdLaws.{same_code, same_length, same_over, same_bytes}
+use native.Mathlib.Omega.{arith}
 use mathlib.Core.Path.{◌∙◌}
 use Rattle.senders_lookup.proofs.same.Goals as goal
 
@@ -11,7 +12,7 @@ returns-then-x-y-2 c = same_length _ _ c.if-x-y.false c.if-x-y-2.true
 
 pub returns-then-y-gt-ID_BYTES : goal.returns-then-y-gt-ID_BYTES
 returns-then-y-gt-ID_BYTES c =
-    same_over _ _ c.if-x-y.false c.if-x-y-2.false c.if-y-gt-ID_BYTES.true
+    same_over _ _ c.if-x-y.false c.if-x-y-2.false (omega arith)
 
 pub returns : goal.returns
 returns c =
