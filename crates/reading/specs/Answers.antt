@@ -8,7 +8,6 @@ use Rattle.reading_header.specs.declared.Frame.{Frame}
 use Rattle.reading_header.specs.Frames.{framed}
 use Rattle.reading_front.specs.Front.{no_frames}
 use Rattle.reading.specs.declared.Found.{Found}
-use Rattle.reading.specs.declared.Reading.{Reading}
 use Rattle.reading.specs.declared.Reading.TheVariants.{Accepted, Refused}
 use Rattle.reading.specs.declared.Answer.{Answer}
 

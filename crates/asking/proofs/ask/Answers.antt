@@ -6,7 +6,6 @@ use Rattle.sim0mq.specs.Views.{judged}
 use Rattle.reading_header.specs.declared.Answer.{Answer}
 use Rattle.reading_front.proofs.FrontCases.{told_refused, told_accepted}
 use Rattle.asking.proofs.FindCases.{ask_closed, ask-refused, ask-none, ask-found}
-use borrow.Author.Rules.{rules}
 use Rattle.asking.proofs.ask.Goals as goal
 
 pub returns-then-e-k : goal.returns-then-e-k

@@ -1,5 +1,4 @@
 -- Each number is that of the row.
-use borrow.Author.Rules.{rules}
 use Rattle.asking.proofs.field_in.Goals as goal
 
 pub returns : goal.returns

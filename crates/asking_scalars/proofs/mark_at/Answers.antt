@@ -1,5 +1,4 @@
 -- The unit type's kind says which items the mark has, and each is read where the definition says.
-use borrow.Author.Rules.{rules}
 use mathlib.Core.Path.{sym, ap}
 use Rattle.asking_scalars.specs.Scalars.{mark_of}
 use Rattle.sim0mq_marks.proofs.MarkCases.{kind_plain, kind_between, kind_above}

@@ -1,5 +1,4 @@
 -- The field is asked for, and its value is told by its code.
-use borrow.Author.Rules.{rules}
 use mathlib.Core.Path.{sym, ap, ◌∙◌}
 use Rattle.sim0mq.specs.Answer.{◌>>=◌}
 use Rattle.reading_fields.specs.Items.{fielded}

@@ -1,14 +1,13 @@
 -- The numbers copied so far are at the front, and the others are as they were.
 use native.Mathlib.Omega.{arith}
-use Prim.Native.Nat.{ℕ, ◌-◌, ◌≤◌}
+use Prim.Native.Nat.{ℕ}
 use mathlib.Core.Path.{◌≡◌, refl, sym, ap, ◌∙◌}
 use mathlib.Core.List.{List}
 use native.Mathlib.Numerals.{add-one}
 use native.Mathlib.Nat.{zero-add}
-use lib.ListN.{length, get_or, set, length-set}
+use lib.ListN.{get_or, set, length-set}
 use lib.Seq.{paste, paste-zero, paste-suc, length-take-le}
 use Rattle.sim0mq.specs.Table.{stored}
-use borrow.Author.Rules.{rules}
 use Rattle.reading.proofs.copied.Goals as goal
 
 pub loop-i-init : goal.loop-i-init

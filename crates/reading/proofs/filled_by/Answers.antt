@@ -9,7 +9,6 @@ use Rattle.sim0mq.specs.Views.{judged}
 use Rattle.sim0mq.specs.declared.Judged.{Judged}
 use Rattle.sim0mq_numbers.specs.Numbers.{Below}
 use Rattle.reading.proofs.AnswerCases.{fill_refused, fill_accepted}
-use borrow.Author.Rules.{rules}
 use Rattle.reading.proofs.filled_by.Goals as goal
 
 pub overflow_mul-n : goal.overflow_mul-n

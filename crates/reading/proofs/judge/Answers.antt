@@ -4,7 +4,6 @@ use Rattle.reading_header.specs.declared.Answer.{Answer}
 use Rattle.reading.specs.Answers.{answer_of}
 use Rattle.reading_front.proofs.FrontCases.{told_refused, told_accepted, open-within}
 use Rattle.reading.proofs.AnswerCases.{closed_answer, open-answer, below_most}
-use borrow.Author.Rules.{rules}
 use Rattle.reading.proofs.judge.Goals as goal
 
 pub told_by-requires : goal.told_by-requires

@@ -5,7 +5,6 @@ use Rattle.reading_header.specs.declared.Answer.{Answer}
 use Rattle.reading.specs.Answers.{answer_of}
 use Rattle.reading_front.proofs.FrontCases.{told_refused, told_accepted, open-within}
 use Rattle.reading.proofs.AnswerCases.{closed_answer, closed_table, open-fillable, open-answer, open-table, below_most}
-use borrow.Author.Rules.{rules}
 use Rattle.reading.proofs.read.Goals as goal
 
 pub fill-filling-requires : goal.fill-filling-requires

@@ -7,7 +7,6 @@ use Rattle.sim0mq.specs.Views.{judged}
 use Rattle.sim0mq.specs.declared.Judged.{Judged}
 use Rattle.sim0mq_numbers.specs.Numbers.{Below}
 use Rattle.reading.specs.Answers.{answer_of}
-use borrow.Author.Rules.{rules}
 use Rattle.reading.proofs.told_by.Goals as goal
 
 pub overflow_add-result : goal.overflow_add-result

@@ -1,10 +1,6 @@
 -- What is left of the row from here on answers for the whole row.
-use borrow.Author.Rules.{rules}
 use native.Mathlib.Omega.{arith}
-use Prim.Native.Nat.{◌≤◌, ◌-◌}
-use mathlib.Core.Path.{◌≡◌, refl, sym, ◌∙◌}
-use lib.ListN.{length, drop}
-use Rattle.sim0mq.specs.Header.{among}
+use mathlib.Core.Path.{refl, sym, ◌∙◌}
 use Rattle.reading_header.proofs.FrameCases.{among_here, among_later, among_none}
 use Rattle.reading_header.proofs.among.Goals as goal
 

@@ -1,10 +1,7 @@
-use borrow.Author.Rules.{rules}
-use native.Mathlib.Omega.{arith}
 use Prim.Native.Nat.{◌≤◌, ◌-◌}
-use mathlib.Core.Path.{◌≡◌, refl, sym, ◌∙◌}
+use mathlib.Core.Path.{◌≡◌}
 use lib.ListN.{length, drop}
 use Rattle.sim0mq.specs.Header.{among}
-use Rattle.reading_header.proofs.FrameCases.{among_here, among_later, among_none}
 use Rattle.reading_header.proofs.among.Given as goal
 
 abbrev pub invariant-loop-i : goal.invariant-loop-i

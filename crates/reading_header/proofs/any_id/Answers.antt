@@ -1,5 +1,4 @@
 -- The frame is of one of the id types, none of which is a Boolean's.
-use borrow.Author.Rules.{rules}
 use Rattle.sim0mq.proofs.Rows.{id_not_boolean}
 use Rattle.reading_header.proofs.any_id.Goals as goal
 

@@ -1,7 +1,6 @@
 -- The frame is taken as one of a count's type, whose value bytes are there; the tests of their number are the
 -- definition's.
 use native.Mathlib.Omega.{arith}
-use borrow.Author.Rules.{rules}
 use mathlib.Core.Path.{sym, ap, ◌∙◌}
 use Rattle.sim0mq.specs.Header.{count_codes}
 use Rattle.sim0mq.proofs.Rows.{count_scalar, count_not_boolean}

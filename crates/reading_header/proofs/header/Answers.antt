@@ -1,5 +1,4 @@
 -- Frame 0 and the frames after it are the header.
-use borrow.Author.Rules.{rules}
 use mathlib.Core.Path.{sym, ap, ◌∙◌}
 use Rattle.sim0mq.specs.Views.{judged}
 use Rattle.reading_header.specs.Frames.{told}

@@ -1,6 +1,5 @@
 -- A string of bytes that is all there is an id, and its number is its length; any other id is judged as the frames are.
 use native.Mathlib.Omega.{arith}
-use borrow.Author.Rules.{rules}
 use mathlib.Core.Path.{sym, ◌∙◌}
 use Rattle.reading_header.proofs.TextLaws.{text_told, text_taken_lem}
 use Rattle.reading_header.proofs.id.Goals as goal

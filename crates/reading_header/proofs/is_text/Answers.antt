@@ -1,6 +1,5 @@
 -- Each return is a case of the definition.
 use native.Mathlib.Omega.{arith}
-use borrow.Author.Rules.{rules}
 use Rattle.reading_header.proofs.TextLaws.{text_short, text_long, text_other, text_there}
 use Rattle.reading_header.proofs.is_text.Goals as goal
 

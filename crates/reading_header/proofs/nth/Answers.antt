@@ -1,6 +1,5 @@
 -- Each return is a case of the definition.
 use native.Mathlib.Omega.{arith}
-use borrow.Author.Rules.{rules}
 use mathlib.Core.Path.{◌∙◌}
 use Rattle.sim0mq.proofs.Rows.{number_not_boolean}
 use Rattle.reading_header.proofs.FrameCases.{nth_id, nth_number, nth_status}

@@ -1,6 +1,6 @@
 -- The frames stored so far and the frames from here on are the header's; a refusal hands back the frames that came in.
 use borrow.Author.Rules.{rules}
-use Prim.Native.Nat.{◌<◌, ℕ, ◌+◌, ◌-◌, ◌≤◌}
+use Prim.Native.Nat.{◌<◌, ℕ, ◌+◌, ◌-◌}
 use Rattle.reading_header.specs.declared.Frame.{Frame}
 use Rattle.reading_header.specs.declared.Answer.{Answer}
 use Rattle.reading_header.specs.declared.Said.{Said}
@@ -12,7 +12,7 @@ use lib.Seq.{take-suc-set}
 use Rattle.sim0mq.specs.Field.{after}
 use Rattle.sim0mq.specs.Header as H
 use Rattle.reading_fields.specs.Items.{fielded}
-use Rattle.reading_header.specs.Frames.{counted, header_from, header_rest, shown, told}
+use Rattle.reading_header.specs.Frames.{counted, header_from, shown, told}
 use Rattle.reading_header.proofs.FrameCases.{frames_stop, frames_more, frames_last_stop, frames_last, frames_stored, frames_all, nth_goes, declared_goes}
 use Rattle.reading_header.proofs.rest.Goals as goal
 

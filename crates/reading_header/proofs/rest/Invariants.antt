@@ -1,18 +1,8 @@
-use borrow.Author.Rules.{rules}
-use Prim.Native.Nat.{◌<◌, ℕ, ◌+◌, ◌-◌, ◌≤◌}
-use Rattle.reading_header.specs.declared.Frame.{Frame}
-use Rattle.reading_header.specs.declared.Answer.{Answer}
-use Rattle.reading_header.specs.declared.Said.{Said}
-use native.Mathlib.Omega.{arith}
-use mathlib.Core.Path.{◌≡◌, refl, sym, ap, ◌∙◌}
-use mathlib.Core.List.{List, map}
-use lib.ListN.{length, take, length-set}
-use lib.Seq.{take-suc-set}
-use Rattle.sim0mq.specs.Field.{after}
-use Rattle.sim0mq.specs.Header as H
-use Rattle.reading_fields.specs.Items.{fielded}
-use Rattle.reading_header.specs.Frames.{counted, header_from, header_rest, shown, told}
-use Rattle.reading_header.proofs.FrameCases.{frames_stop, frames_more, frames_last_stop, frames_last, frames_stored, frames_all, nth_goes, declared_goes}
+use Prim.Native.Nat.{◌-◌, ◌≤◌}
+use mathlib.Core.Path.{◌≡◌}
+use mathlib.Core.List.{map}
+use lib.ListN.{length, take}
+use Rattle.reading_header.specs.Frames.{header_from, header_rest, shown}
 use Rattle.reading_header.proofs.rest.Given as goal
 
 abbrev pub invariant-loop-k : goal.invariant-loop-k

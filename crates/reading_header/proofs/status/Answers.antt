@@ -1,6 +1,5 @@
 -- The frame is taken as one of a status' type, which has a value byte; the tests of that byte are the definition's.
 use native.Mathlib.Omega.{arith}
-use borrow.Author.Rules.{rules}
 use mathlib.Core.Path.{sym, ap, ◌∙◌}
 use Rattle.sim0mq.specs.Header.{status_codes}
 use Rattle.sim0mq.proofs.Rows.{status_scalar, status_not_boolean}

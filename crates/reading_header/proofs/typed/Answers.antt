@@ -1,6 +1,5 @@
 -- Each return is a case of the definition.
 use native.Mathlib.Omega.{arith}
-use borrow.Author.Rules.{rules}
 use mathlib.Core.Path.{sym, ◌∙◌}
 use Rattle.reading_header.proofs.FrameCases.{frame_short, frame_wrong, frame_outline}
 use Rattle.reading_header.proofs.typed.Goals as goal
