@@ -28,7 +28,7 @@ ids_complete {s} {at} (f ∷ fs) (more a b) st e =
     let bytes = field_bytes f in
     let rest = flat_map field_bytes fs in
     let here = frame_complete a (stands_left bytes rest st) in
-    let there = ids_complete fs b (stands_right bytes rest st) (omega (arith, length-append bytes rest)) in
+    let there = ids_complete {at = at + length bytes} fs b (stands_right bytes rest st) (omega (arith, length-append bytes rest)) in
     simp (here, after_at at f, there)
 
 -- what was taken, as such a run

@@ -12,7 +12,7 @@ use Rattle.sim0mq.specs.Answer.{fine, byte, big}
 use Rattle.sim0mq.specs.Codes.{width_of}
 use Rattle.sim0mq.specs.Field.{Field}
 use Rattle.sim0mq.specs.Message.{limit, no_table, enough, Reading, reading}
-use Rattle.sim0mq.specs.Allowed.{Each, more, FieldParts, field_bytes, number, frame0, header_bytes, IsHeader, MessageParts, message_bytes, IsMessage}
+use Rattle.sim0mq.specs.Allowed.{Each, more, FieldParts, field_bytes, frame0, header_bytes, IsHeader, MessageParts, message_bytes, IsMessage}
 use Rattle.sim0mq.specs.Demand2.{cut_frames}
 use Rattle.sim0mq.proofs.Answers.{not_fine, fine_eq, guarded}
 use Rattle.sim0mq.proofs.Stands.{Stands, stands_to, stands_head, stands_tail, stands_left, stands_right, stands_self, big_number, part_back}
