@@ -1,6 +1,8 @@
 // The library's calls for C and Rust that read, ask and blank: a slice crosses as a pointer and a length, and an answer
 // as numbers in a slice that the caller lends. Each returns 0 where it is granted, the refusal's number where it is
 // refused, and 255 where the lent answer is too short; then nothing is written.
+#![tactic(auto, unfolding(boundary_giving::specs::Given::given, boundary_giving::specs::Given::returned, boundary_giving::specs::Given::answer_after))]
+
 ghost use Rattle.std.specs.Prelude.{◌≡◌, length};
 ghost use Rattle.sim0mq.specs.Answer.{length_of};
 ghost use Rattle.sim0mq.specs.Blank.{blanking, output_after};
