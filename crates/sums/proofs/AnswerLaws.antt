@@ -2,7 +2,7 @@
 -- The page is held against the rule by one test computed over all unit types up to 28; above it there is no pair.
 use Prim.Native.Nat.{ℕ, ◌<◌, ◌≤◌}
 use mathlib.Core.Path.{◌≡◌, refl, sym, ◌∙◌}
-use mathlib.Core.Bool.{Bool, true, false, ◌&&◌, beq, and_false, false≢true}
+use mathlib.Core.Bool.{Bool, true, false, ◌&&◌, beq, and-false, false≢true}
 use mathlib.Core.List.{List, [], ◌∷◌}
 use native.Mathlib.Omega.{arith}
 use lib.Dec.{eqb, ltb}
@@ -66,7 +66,7 @@ module _ (u : ℕ) (h : 28 < u) where
   pub adds_none_second : (ps : List Pair) (w : ℕ) → AreLow ps → adds_in ps w u ≡ false
   adds_none_second [] w l = refl
   adds_none_second (p ∷ ps) w l =
-      simp (missed p.relative_unit l.0, missed p.absolute_unit l.1.0, and_false) (adds_none_second ps w l.1.1)
+      simp (missed p.relative_unit l.0, missed p.absolute_unit l.1.0, and-false) (adds_none_second ps w l.1.1)
 
   pub subtracts_none_first : (ps : List Pair) (v : ℕ) → AreLow ps → subtracts_in ps u v ≡ false
   subtracts_none_first [] v l = refl
@@ -76,7 +76,7 @@ module _ (u : ℕ) (h : 28 < u) where
   pub subtracts_none_second : (ps : List Pair) (w : ℕ) → AreLow ps → subtracts_in ps w u ≡ false
   subtracts_none_second [] w l = refl
   subtracts_none_second (p ∷ ps) w l =
-      simp (missed p.relative_unit l.0, missed p.absolute_unit l.1.0, and_false) (subtracts_none_second ps w l.1.1)
+      simp (missed p.relative_unit l.0, missed p.absolute_unit l.1.0, and-false) (subtracts_none_second ps w l.1.1)
 
 no_second : (rule : Quantity → Quantity → Answer Quantity) (a : Answer Quantity) → is_fine (combined rule a (refused 24 0)) ≡ false
 no_second rule (fine q) = refl

@@ -1,7 +1,7 @@
 -- Which sums of floats are finite; and a sum's operands may change places.
 use Prim.Native.Nat.{ℕ, zero, suc, ◌+◌, ◌-◌, ◌*◌, ◌^◌, ◌≤◌, ◌<◌}
 use mathlib.Core.Path.{◌≡◌, refl, sym, ap, ◌∙◌}
-use mathlib.Core.Bool.{Bool, true, false, not, cond, ◌&&◌, beq, not-not, and_true, and_false}
+use mathlib.Core.Bool.{Bool, true, false, not, cond, ◌&&◌, beq, not-not, and-true, and-false}
 use native.Mathlib.Omega.{arith}
 use native.Mathlib.Nat.{mul_comm, add_comm}
 use lib.Dec.{ltb}
@@ -83,13 +83,13 @@ module _ (f : Format) (a b c : ℕ) where
   greater : (s t p q : Bool) → ltb a b ≡ p → ltb b a ≡ q
       → cond p (round f t (b - a) c) (round f (s && q) (a - b) c) ≡ cond q (round f s (a - b) c) (round f (t && p) (b - a) c)
   greater s t true true h k = let l : a < b = ltb-true a b h in let m : b < a = ltb-true b a k in absurd (omega arith)
-  greater s t true false h k = rw (and_true t)
-  greater s t false true h k = rw (and_true s)
+  greater s t true false h k = rw (and-true t)
+  greater s t false true h k = rw (and-true s)
   greater s t false false h k =
       let l : b ≤ a = ltb-false a b h in
       let m : a ≤ b = ltb-false b a k in
       let e : a - b ≡ b - a = omega arith in
-      rw (and_false s, and_false t, e)
+      rw (and-false s, and-false t, e)
 
   unlike_signs : (s t : Bool) → beq s t ≡ false → beq t s ≡ false → sum f s a t b c ≡ sum f t b s a c
   unfolding sum

@@ -5,7 +5,8 @@ use mathlib.Core.Path.{◌≡◌, refl, ap, ◌∙◌}
 use mathlib.Core.Bool.{Bool, true, false, ◌&&◌}
 use mathlib.Core.List.{[], ◌∷◌}
 use lib.Ieee.{Float}
-use types.Run.{OneOf, miss}
+use types.Run.{miss}
+use borrow.Enum.Refused.{Among, opened}
 use denote.Enum.Declared.{tag_of}
 use Rattle.sim0mq.specs.Answer.{Answer, fine, refused, ◌>>=◌, ◌>>◌, guard}
 use Rattle.sim0mq.specs.Mark.{kind_of}
@@ -22,7 +23,7 @@ use Rattle.sums.specs.Views.{read_of, combined_of, shown_as, resulting}
 use Rattle.sums.proofs.RuleLaws.{IsRule, Strict, rule_strict}
 
 -- a scalar of any case but a double with its mark is refused by 17
-pub no_double : (a : Scalar) → OneOf (0 ∷ 1 ∷ 2 ∷ 3 ∷ 4 ∷ 5 ∷ 6 ∷ 7 ∷ 8 ∷ 9 ∷ 11 ∷ []) (tag_of the_type a) → read_of a ≡ refused 17 0
+pub no_double : (a : Scalar) → Among (0 ∷ 1 ∷ 2 ∷ 3 ∷ 4 ∷ 5 ∷ 6 ∷ 7 ∷ 8 ∷ 9 ∷ 11 ∷ []) (tag_of the_type a) → read_of a ≡ refused 17 0
 unfolding read_of measured
 no_double (Byte z) h = refl
 no_double (Short z) h = refl
@@ -34,7 +35,7 @@ no_double (Boolean b) h = refl
 no_double (Char8 n) h = refl
 no_double (Char16 n) h = refl
 no_double (FloatUnit x m) h = refl
-no_double (DoubleUnit x m) h = absurd (miss (0 ∷ 1 ∷ 2 ∷ 3 ∷ 4 ∷ 5 ∷ 6 ∷ 7 ∷ 8 ∷ 9 ∷ 11 ∷ []) 10 tt h)
+no_double (DoubleUnit x m) h = absurd (miss (0 ∷ 1 ∷ 2 ∷ 3 ∷ 4 ∷ 5 ∷ 6 ∷ 7 ∷ 8 ∷ 9 ∷ 11 ∷ []) 10 tt (opened h))
 no_double (NotNumber c) h = refl
 
 -- so is one whose mark is not taken; and with a mark that is, it is the quantity of its unit type

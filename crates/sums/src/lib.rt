@@ -1,5 +1,7 @@
 // The sum and the difference of two scalars, as asking returns them: each scalar is read as the quantity that its mark
 // says, and only the manual's sums and differences of two quantities are there to be taken.
+#![tactic(auto)]
+
 ghost use Rattle.std.specs.Prelude.{◌≡◌};
 ghost use Rattle.sim0mq.specs.Answer.{refused};
 ghost use Rattle.asking_scalars.specs.Scalars.{valued};

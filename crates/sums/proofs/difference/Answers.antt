@@ -1,0 +1,21 @@
+-- What the two scalars were read as is combined, and only the difference is tested for 25.
+use lib.Ieee.{binary64}
+use mathlib.Core.Path.{sym, ap, ◌∙◌}
+use Rattle.sums_pairs.specs.Pairs.{quantity_difference}
+use Rattle.sums.specs.Views.{combined_as, resulting}
+use Rattle.sums.proofs.FloatLaws.{sub_strict}
+use Rattle.sums.proofs.RuleLaws.{difference_rule}
+use Rattle.sums.proofs.SumLaws.{answered}
+use Rattle.sums.proofs.difference.Goals as goal
+
+pub returns-in-Are : goal.returns-in-Are
+returns-in-Are c =
+    c.result.ensures
+    ∙ answered quantity_difference _ difference_rule (sub_strict binary64) _ _ _
+    (c.subtract.ensures ∙ ap (combined_as quantity_difference) (sym c.in-Are.is) ∙ c.operands.ensures quantity_difference)
+
+pub returns-in-Neither : goal.returns-in-Neither
+unfolding resulting
+returns-in-Neither c =
+    c.refuse.ensures
+    ∙ answered quantity_difference _ difference_rule (sub_strict binary64) _ _ _ (ap (combined_as quantity_difference) (sym c.in-Neither.is) ∙ c.operands.ensures quantity_difference)
