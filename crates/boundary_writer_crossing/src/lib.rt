@@ -1,5 +1,7 @@
 // The writer's answers as numbers, stored in the answer that a caller lends, and its state and the count's type of
 // numbers: what the calls for C and Rust hand over.
+#![tactic(auto)]
+
 ghost use Rattle.std.specs.Prelude.{◌≡◌, ◌++◌, ◌<◌, get_or};
 ghost use Rattle.sim0mq.specs.Views.{judged};
 ghost use Rattle.boundary_crossing.specs.Numbers.{length_numbers};
@@ -58,6 +60,7 @@ pub fn writer_of(written: u64, declared: u64, added: u64, closed: u8) -> Writer
 }
 
 // The type of the declared count: `kind`, where it is stated.
+#[tactic(auto, unfolding(crate::specs::States::count_type))]
 pub fn count_type(stated: u8, kind: u8) -> CountType
     ensures { result ≡ count_type stated kind }
 {
