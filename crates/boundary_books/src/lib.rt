@@ -1,4 +1,6 @@
 // The book of senders as numbers that a caller from C or Rust keeps: read from a lent slice, and put into one.
+#![tactic(auto)]
+
 ghost use Rattle.std.specs.Prelude.{◌≡◌, ◌+◌, ◌≤◌, ◌<◌, length, get_or};
 ghost use Rattle.sim0mq.specs.Table.{placed};
 ghost use Rattle.sim0mq_buffers.specs.Placing.{put_in};
