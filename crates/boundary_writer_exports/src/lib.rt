@@ -1,6 +1,8 @@
 // The library's calls for C and Rust that write: a slice crosses as a pointer and a length, the writer's state as
 // numbers, and an answer as numbers in a slice that the caller lends. Each returns 0 where it is granted, the refusal's
 // number where it is refused, and 255 where the lent answer is too short; then nothing is written.
+#![tactic(auto, unfolding(boundary_giving::specs::Given::given, boundary_giving::specs::Given::returned, boundary_giving::specs::Given::answer_after, crate::specs::Calls::open_numbers, crate::specs::Calls::opened_in, crate::specs::Calls::add_numbers, crate::specs::Calls::added_in, crate::specs::Calls::close_numbers))]
+
 ghost use Rattle.std.specs.Prelude.{◌≡◌, length};
 ghost use Rattle.writing.specs.Writing.{asks_for, encoded, scalar};
 ghost use Rattle.boundary_writer_crossing.specs.States.{writer_of, count_type};
