@@ -1,5 +1,7 @@
 // The library's calls for C and Rust that add and subtract two scalars: each crosses as its kind, its bits and the
 // three numbers of its mark, as `sim0mq_value` answers them, and so does the result.
+#![tactic(auto)]
+
 ghost use Rattle.std.specs.Prelude.{◌≡◌};
 ghost use Rattle.sums.specs.Sums.{sum_of, difference_of};
 ghost use Rattle.boundary_casting.specs.Casting.{mark_from, scalar_from, value_numbers};
