@@ -1,6 +1,8 @@
 // The library's calls for C and Rust that keep a book of senders: the book crosses as a lent slice of numbers that each
 // call takes and leaves, and an answer as numbers in a slice that the caller lends. Each returns 0 where it is granted,
 // the refusal's number where it is refused, and 255 where the lent answer is too short; then nothing is written.
+#![tactic(auto, unfolding(boundary_giving::specs::Given::given, boundary_giving::specs::Given::returned, boundary_giving::specs::Given::answer_after))]
+
 ghost use Rattle.std.specs.Prelude.{◌≡◌};
 ghost use Rattle.sim0mq.specs.Views.{judged};
 ghost use Rattle.boundary_crossing.specs.Numbers.{length_numbers};
@@ -19,6 +21,7 @@ const TAKE: usize = 3;
 const CLOSE: usize = 3;
 
 // Takes the message into the book of these numbers: the sender's place, or the refusal.
+#[tactic(auto, unfolding(crate::specs::Calls::taking_in, crate::specs::Calls::taken_in))]
 fn take_in(book: &mut [u64], message: &[u8]) -> Judged
     ensures answer { judged result ≡ place_in (taking_in book.old message.now) }
     ensures left { book.new
@@ -40,6 +43,7 @@ fn take_in(book: &mut [u64], message: &[u8]) -> Judged
 }
 
 // Closes the sender in the book of these numbers: 1 where it was held and 0 where not, or the refusal.
+#[tactic(auto, unfolding(crate::specs::Calls::closing_in, crate::specs::Calls::closed_in))]
 fn close_in(book: &mut [u64], code: usize, id: &[u8]) -> Judged
     ensures answer { judged result ≡ held_in (closing_in book.old code id.now) }
     ensures left { book.new
