@@ -14,9 +14,11 @@ pub overflow_sub-out : goal.overflow_sub-out
 overflow_sub-out c = let within = (usable_true _ _ c.requires.0).1 in omega arith
 
 pub returns-then-out-at : goal.returns-then-out-at
-returns-then-out-at c = let a = c.args in
+returns-then-out-at c =
+    let a = c.args in
     let within = (usable_true _ _ c.requires.0).1 in
-    let both = told_added a.w a.out.now a.out.now _ _ _ (room_over a.w.written (length a.out.now) a.text.now (omega arith)) c.refused.ensures refl in
+    let told = room_over a.w.written (length a.out.now) a.text.now (omega arith) in
+    let both = told_added a.w a.out.now a.out.now _ _ _ told c.refused.ensures refl in
     record { answer = both.0; written = both.1 }
 
 pub overflow_add-result : goal.overflow_add-result
@@ -24,8 +26,11 @@ unfolding most_messages
 overflow_add-result c = search rules
 
 pub returns : goal.returns
-returns c = let a = c.args in
+returns c =
+    let a = c.args in
     let within = (usable_true _ _ c.requires.0).1 in
     let room : a.w.written + length a.text.now ≤ length a.out.now = omega arith in
-    let both = told_added a.w a.out.now _ _ _ _ (room_fits a.w.written (length a.out.now) a.text.now room) refl (c.put.ensures ∙ put_fits a.out.now a.w.written a.text.now room) in
+    let fits = room_fits a.w.written (length a.out.now) a.text.now room in
+    let there = c.put.ensures ∙ put_fits a.out.now a.w.written a.text.now room in
+    let both = told_added a.w a.out.now _ _ _ _ fits refl there in
     record { answer = both.0; written = both.1 }

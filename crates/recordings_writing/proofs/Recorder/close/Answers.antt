@@ -9,8 +9,10 @@ use Rattle.recordings_writing.proofs.StateLaws.{usable_true}
 use Rattle.recordings_writing.proofs.Recorder.close.Goals as goal
 
 pub returns-then-not-usable : goal.returns-then-not-usable
-returns-then-not-usable c = let bad = sym c.usable.ensures ∙ c.if-not-usable.true in
-    let both = told_closed c.args.self c.args.out.now c.args.out.now _ _ _ (closing_state c.args.self c.args.out.now bad) c.refused.ensures refl in
+returns-then-not-usable c =
+    let bad = sym c.usable.ensures ∙ c.if-not-usable.true in
+    let told = closing_state c.args.self c.args.out.now bad in
+    let both = told_closed c.args.self c.args.out.now c.args.out.now _ _ _ told c.refused.ensures refl in
     record { answer = both.0; written = both.1 }
 
 pub slice_bounds-divide-end : goal.slice_bounds-divide-end
@@ -27,7 +29,8 @@ slice_bounds-divide-end-2 c =
 
 pub returns-then-d-self : goal.returns-then-d-self
 unfolding most_messages
-returns-then-d-self c = let good = sym c.usable.ensures ∙ c.if-not-usable.false in
+returns-then-d-self c =
+    let good = sym c.usable.ensures ∙ c.if-not-usable.false in
     let out = c.args.out.now in
     let says = c.divide-d.ensures.answer in
     let other = closing-count c.args.self out good _ refl c.divide-d.result says (λ q. omega arith) in
@@ -46,7 +49,8 @@ finish-requires c =
 
 pub returns-in-AtFault : goal.returns-in-AtFault
 unfolding most_messages
-returns-in-AtFault c = let good = sym c.usable.ensures ∙ c.if-not-usable.false in
+returns-in-AtFault c =
+    let good = sym c.usable.ensures ∙ c.if-not-usable.false in
     let out = c.args.out.now in
     let says = c.divide-d.ensures.answer in
     let fault = closing-fault c.args.self out good _ refl c.divide-d.result says _ c.in-AtFault.is in
@@ -55,7 +59,8 @@ returns-in-AtFault c = let good = sym c.usable.ensures ∙ c.if-not-usable.false
 
 pub returns-in-AtMost : goal.returns-in-AtMost
 unfolding most_messages
-returns-in-AtMost c = let good = sym c.usable.ensures ∙ c.if-not-usable.false in
+returns-in-AtMost c =
+    let good = sym c.usable.ensures ∙ c.if-not-usable.false in
     let out = c.args.out.now in
     let says = c.divide-d.ensures.answer in
     let most = closing-most c.args.self out good _ refl c.divide-d.result says c.in-AtMost.is in
@@ -64,7 +69,8 @@ returns-in-AtMost c = let good = sym c.usable.ensures ∙ c.if-not-usable.false 
 
 pub returns-in-AtEnd : goal.returns-in-AtEnd
 unfolding most_messages
-returns-in-AtEnd c = let good = sym c.usable.ensures ∙ c.if-not-usable.false in
+returns-in-AtEnd c =
+    let good = sym c.usable.ensures ∙ c.if-not-usable.false in
     let out = c.args.out.now in
     let says = c.divide-d.ensures.answer in
     let end = c.in-AtEnd.is in
