@@ -1,28 +1,36 @@
 // Runs the cases of cases.txt and prints each that goes wrong, then how many there are and how many of them are wrong.
-use libc::STDERR_FILENO;
+#![tactic(auto)]
+
+use std::{fs, io};
 use vectors_lines::{find, part};
 use vectors_runs::{Run, next};
 use vectors_texts::{rewrites, values};
 
 // The run after its line; at the end of a case, that case is run.
-fn turn(text: &[u8], run: Run, message: &mut [u8], expected: &mut [u8]) -> Run {
+fn turn(
+    rt: &impl Print,
+    text: &[u8],
+    run: Run,
+    message: &mut [u8],
+    expected: &mut [u8],
+) -> io::Result<Run> {
     let line = part(text, run.from, run.to);
     if run.begun {
         if check::same(line, b"end") {
-            return end(text, run, message, expected);
+            return end(rt, text, run, message, expected);
         }
     }
-    vectors_runs::turn(line, run, message, expected)
+    vectors_runs::turn(rt, line, run, message, expected)
 }
 
 // `end`: the case is run, and its listing, or what asking, blanking or writing answers, compared. An accepted message
 // that writing does not give back has a line more, which no case expects.
-fn end(text: &[u8], run: Run, message: &[u8], expected: &[u8]) -> Run {
+fn end(rt: &impl Print, text: &[u8], run: Run, message: &[u8], expected: &[u8]) -> io::Result<Run> {
     let mut told = [0u8; 16384];
     let own = part(message, 0, run.length);
     let answered = answer(run, part(text, run.name_to, run.from), own, &mut told);
     let n = rewrites::answer(own, &mut told, answered);
-    vectors_runs::ended(text, run, part(&told, 0, n), expected)
+    vectors_runs::ended(rt, text, run, part(&told, 0, n), expected)
 }
 
 // The length of the answer of the case that has these lines, put at the front of `out`: of what asking, blanking or
@@ -41,7 +49,7 @@ fn answer(run: Run, text: &[u8], message: &[u8], out: &mut [u8]) -> usize {
 }
 
 // The run of every line of `text`.
-fn all(text: &[u8]) -> Run {
+fn all(rt: &impl Print, text: &[u8]) -> io::Result<Run> {
     let mut message_room = [0u8; 66000];
     let mut expected_room = [0u8; 16384];
     let message: &mut [u8] = &mut message_room;
@@ -53,30 +61,16 @@ fn all(text: &[u8]) -> Run {
         run.line = next(run.line);
         run.from = at;
         run.to = to;
-        run = turn(text, run, message, expected);
+        run = turn(rt, text, run, message, expected)?;
         at = to + 1;
     }
-    run
-}
-
-// Room for the text of a case file.
-fn room() -> [u8; 524288] {
-    [0u8; 524288]
+    Ok(run)
 }
 
 // Runs the cases of the file cases.txt.
-fn main() {
-    let fd = os::open_read(b"cases.txt");
-    if fd < 0 {
-        os::fail(b"cases.txt");
-        return;
-    }
-    let mut text = room();
-    let n = io::read_full(fd, &mut text);
-    libc::close(fd);
-    if n == text.len() {
-        io::write_all(STDERR_FILENO, b"cases.txt has more bytes than fit\n");
-        return;
-    }
-    vectors_runs::report(all(&text[..n]));
+fn main(rt: HostRuntime) -> io::Result<()> {
+    let text = fs::read(&rt, "cases.txt")?;
+    let run = all(&rt, text.as_slice())?;
+    vectors_runs::report(&rt, run)?;
+    Ok(())
 }

@@ -1,14 +1,16 @@
 // Runs the commands of cases.txt, one a line, over one ledger and one book of senders, and writes what each answers.
 // The head of that file says what the commands are; what must be written stands in `stdout`.
+#![tactic(auto)]
+
 use ledger::Mustered;
 use ledger_decks::{DECKS, Ledger};
 use ledger_recordings::{Reckoned, reckon};
-use libc::{STDERR_FILENO, STDOUT_FILENO};
 use programs_pieces::put;
 use reading_header::Frame;
 use senders::Closed;
 use senders_book::Book;
 use sim0mq::{Judged, Refusal};
+use std::{fs, io};
 use vectors_lines::wholes::{Whole, signed};
 use vectors_lines::{find, part, spaced, starts};
 use vectors_tokens::added;
@@ -33,59 +35,58 @@ struct Both {
 }
 
 // Writes a text.
-fn say(text: &[u8]) {
-    io::write_all(STDOUT_FILENO, text);
+fn say(rt: &impl Print, text: &[u8]) -> io::Result<()> {
+    rt.write_all(text)
 }
 
 // Writes a number after a space.
-fn figure(n: usize) {
-    say(b" ");
-    io::print_decimal(STDOUT_FILENO, n as u64);
+fn figure(rt: &impl Print, n: usize) -> io::Result<()> {
+    print!(rt; " {n}")
 }
 
 // Writes a line that is not understood, and hands back ledger and book.
-fn lost(line: &[u8], both: Both) -> Both {
-    say(b"unknown: ");
-    say(line);
-    say(b"\n");
-    both
+fn lost(rt: &impl Print, line: &[u8], both: Both) -> io::Result<Both> {
+    say(rt, b"unknown: ")?;
+    say(rt, line)?;
+    say(rt, b"\n")?;
+    Ok(both)
 }
 
 // Writes a refusal.
-fn refused(r: Refusal) {
-    say(b": refused");
-    figure(r.number as usize);
-    say(b" at");
-    figure(r.place);
+fn refused(rt: &impl Print, r: Refusal) -> io::Result<()> {
+    say(rt, b": refused")?;
+    figure(rt, r.number as usize)?;
+    say(rt, b" at")?;
+    figure(rt, r.place)
 }
 
 // Writes what mustering answers, and hands back ledger and book after it.
-fn told(line: &[u8], m: Mustered) -> Both {
+fn told(rt: &impl Print, line: &[u8], m: Mustered) -> io::Result<Both> {
     let said = m.said;
-    say(line);
+    say(rt, line)?;
     match said {
         Judged::Accepted(i) => {
-            say(b": place");
-            figure(i);
+            say(rt, b": place")?;
+            figure(rt, i)?;
         }
-        Judged::Refused(r) => refused(r),
+        Judged::Refused(r) => refused(rt, r)?,
     }
-    say(b"\n");
+    say(rt, b"\n")?;
     let ledger = m.ledger;
     let book = m.book;
-    Both { ledger, book }
+    Ok(Both { ledger, book })
 }
 
 // Writes what closing answers, and hands back the ledger, and the book after it.
-fn closed(line: &[u8], ledger: Ledger, c: Closed) -> Both {
-    say(line);
+fn closed(rt: &impl Print, line: &[u8], ledger: Ledger, c: Closed) -> io::Result<Both> {
+    say(rt, line)?;
     if c.held {
-        say(b": held\n");
+        say(rt, b": held\n")?;
     } else {
-        say(b": none held\n");
+        say(rt, b": none held\n")?;
     }
     let book = c.book;
-    Both { ledger, book }
+    Ok(Both { ledger, book })
 }
 
 // The eight bytes of a signed number, as an unsigned one.
@@ -111,28 +112,28 @@ fn built(line: &[u8], from: usize, w: Whole, message: &mut [u8]) -> usize {
 }
 
 // `muster N BYTES`: musters the message.
-fn muster(line: &[u8], both: Both) -> Both {
+fn muster(rt: &impl Print, line: &[u8], both: Both) -> io::Result<Both> {
     let mut message = [0u8; ROOM];
     let w = signed(line, 7);
     let n = built(line, w.at, w, &mut message);
     if ROOM < n {
-        return lost(line, both);
+        return lost(rt, line, both);
     }
     let ledger = both.ledger;
     let book = both.book;
-    told(line, ledger::muster(ledger, book, part(&message, 0, n)))
+    told(rt, line, ledger::muster(ledger, book, part(&message, 0, n)))
 }
 
 // `message BYTES`: musters them.
-fn raw(line: &[u8], both: Both) -> Both {
+fn raw(rt: &impl Print, line: &[u8], both: Both) -> io::Result<Both> {
     let mut message = [0u8; ROOM];
     let n = added(line, 8, &mut message, 0);
     if ROOM < n {
-        return lost(line, both);
+        return lost(rt, line, both);
     }
     let ledger = both.ledger;
     let book = both.book;
-    told(line, ledger::muster(ledger, book, part(&message, 0, n)))
+    told(rt, line, ledger::muster(ledger, book, part(&message, 0, n)))
 }
 
 // Eight frames, of which the type, the status and the number of fields stand at these places, and the sender and the
@@ -158,7 +159,7 @@ fn frames(kind: usize, status: usize, count: usize) -> [Frame; 8] {
 
 // `framed N A B C F BYTES`: musters the message by frames of which the type stands at A, the status at B and the number
 // of fields at C, with F fields.
-fn framed(line: &[u8], both: Both) -> Both {
+fn framed(rt: &impl Print, line: &[u8], both: Both) -> io::Result<Both> {
     let mut message = [0u8; ROOM];
     let w = signed(line, 7);
     let a = spaced(line, w.at);
@@ -167,92 +168,92 @@ fn framed(line: &[u8], both: Both) -> Both {
     let f = spaced(line, c.at);
     let n = built(line, f.at, w, &mut message);
     if ROOM < n {
-        return lost(line, both);
+        return lost(rt, line, both);
     }
     let by = frames(a.value, b.value, c.value);
     told(
+        rt,
         line,
         ledger::muster_framed(both.ledger, both.book, part(&message, 0, n), by, f.value),
     )
 }
 
 // `close C BYTES`: closes the sender of type code C with these value bytes.
-fn close(line: &[u8], both: Both) -> Both {
+fn close(rt: &impl Print, line: &[u8], both: Both) -> io::Result<Both> {
     let mut id = [0u8; ROOM];
     let c = spaced(line, 5);
     let n = added(line, c.at, &mut id, 0);
     if ROOM < n {
-        return lost(line, both);
+        return lost(rt, line, both);
     }
     let ledger = both.ledger;
     let book = both.book;
-    closed(line, ledger, senders::close(book, c.value, part(&id, 0, n)))
+    closed(
+        rt,
+        line,
+        ledger,
+        senders::close(book, c.value, part(&id, 0, n)),
+    )
 }
 
 // `deck D N`: N heads are on deck D.
-fn deck(line: &[u8], both: Both) -> Both {
+fn deck(rt: &impl Print, line: &[u8], both: Both) -> io::Result<Both> {
     let d = spaced(line, 4);
     let n = spaced(line, d.at);
-    let ledger = both.ledger;
-    let book = both.book;
-    let mut heads = ledger.heads;
+    let mut heads = both.ledger.heads;
     let i = d.value;
     if i < DECKS {
         if n.value < 65536 {
             heads[i] = n.value as u16;
-            return Both {
+            return Ok(Both {
                 ledger: Ledger { heads },
-                book,
-            };
+                book: both.book,
+            });
         }
     }
-    lost(line, both)
+    lost(rt, line, both)
 }
 
 // Writes the heads on a deck.
-fn shown(n: u16) {
-    figure(n as usize);
+fn shown(rt: &impl Print, n: u16) -> io::Result<()> {
+    figure(rt, n as usize)
 }
 
 // `decks`: writes how many heads are on each deck.
-fn listing(ledger: Ledger) {
-    let heads = ledger.heads;
-    say(b"decks");
-    let mut i: usize = 0;
-    while i < DECKS {
-        shown(heads[i]);
-        i += 1;
+fn listing(rt: &impl Print, ledger: &Ledger) -> io::Result<()> {
+    say(rt, b"decks")?;
+    for n in ledger.heads {
+        shown(rt, n)?;
     }
-    say(b"\n");
+    say(rt, b"\n")
 }
 
 // Writes what a recording comes to: the messages applied and refused, or the refusal; and the heads on each deck.
-fn reckoned(r: Reckoned) {
+fn reckoned(rt: &impl Print, r: Reckoned) -> io::Result<()> {
     let said = r.said;
-    let ledger = r.ledger;
-    say(b"recording");
+    say(rt, b"recording")?;
     match said {
         Judged::Accepted(n) => {
-            say(b": applied");
-            figure(n);
-            say(b" refused");
-            figure(r.refused);
+            say(rt, b": applied")?;
+            figure(rt, n)?;
+            say(rt, b" refused")?;
+            figure(rt, r.refused)?;
         }
-        Judged::Refused(f) => refused(f),
+        Judged::Refused(f) => refused(rt, f)?,
     }
-    say(b"\n");
-    listing(ledger);
+    say(rt, b"\n")?;
+    listing(rt, &r.ledger)
 }
 
 // `recording BYTES`: reckons them; ledger and book stay as they are.
-fn recording(line: &[u8], both: Both) -> Both {
+fn recording(rt: &impl Print, line: &[u8], both: Both) -> io::Result<Both> {
     let mut bytes = [0u8; RECORDING];
     let n = added(line, 10, &mut bytes, 0);
     if RECORDING < n {
-        return lost(line, both);
+        return lost(rt, line, both);
     }
-    reckoned(reckon(part(&bytes, 0, n)));
-    both
+    reckoned(rt, reckon(part(&bytes, 0, n)))?;
+    Ok(both)
 }
 
 // Whether `line` says nothing: it is empty or begins with #.
@@ -264,26 +265,26 @@ fn comment(line: &[u8]) -> bool {
 }
 
 // Ledger and book after a line that calls them.
-fn called(line: &[u8], both: Both) -> Both {
+fn called(rt: &impl Print, line: &[u8], both: Both) -> io::Result<Both> {
     if starts(line, b"muster ") {
-        return muster(line, both);
+        return muster(rt, line, both);
     }
     if starts(line, b"message ") {
-        return raw(line, both);
+        return raw(rt, line, both);
     }
     if starts(line, b"framed ") {
-        return framed(line, both);
+        return framed(rt, line, both);
     }
     if starts(line, b"close ") {
-        return close(line, both);
+        return close(rt, line, both);
     }
     if starts(line, b"deck ") {
-        return deck(line, both);
+        return deck(rt, line, both);
     }
     if starts(line, b"recording ") {
-        return recording(line, both);
+        return recording(rt, line, both);
     }
-    lost(line, both)
+    lost(rt, line, both)
 }
 
 // The empty ledger and the empty book.
@@ -294,50 +295,39 @@ fn fresh() -> Both {
 }
 
 // Ledger and book after a line.
-fn turn(line: &[u8], both: Both) -> Both {
+fn turn(rt: &impl Print, line: &[u8], both: Both) -> io::Result<Both> {
     if comment(line) {
-        return both;
+        return Ok(both);
     }
     if starts(line, b"= ") {
-        say(part(line, 2, line.len()));
-        say(b"\n");
-        return both;
+        say(rt, part(line, 2, line.len()))?;
+        say(rt, b"\n")?;
+        return Ok(both);
     }
     if check::same(line, b"empty") {
-        return fresh();
+        return Ok(fresh());
     }
     if check::same(line, b"decks") {
-        let ledger = both.ledger;
-        listing(ledger);
-        return both;
+        listing(rt, &both.ledger)?;
+        return Ok(both);
     }
-    called(line, both)
+    called(rt, line, both)
 }
 
 // Runs every line of `text`, from the empty ledger and the empty book on.
-fn all(text: &[u8]) {
+fn all(rt: &impl Print, text: &[u8]) -> io::Result<()> {
     let mut both = fresh();
     let mut at = 0;
     while at < text.len() {
         let to = find(text, at, b'\n');
-        both = turn(part(text, at, to), both);
+        both = turn(rt, part(text, at, to), both)?;
         at = to + 1;
     }
+    Ok(())
 }
 
 // Runs the commands of the file cases.txt.
-fn main() {
-    let fd = os::open_read(b"cases.txt");
-    if fd < 0 {
-        os::fail(b"cases.txt");
-        return;
-    }
-    let mut text = [0u8; 32768];
-    let n = io::read_full(fd, &mut text);
-    libc::close(fd);
-    if n == text.len() {
-        io::write_all(STDERR_FILENO, b"cases.txt has more bytes than fit\n");
-        return;
-    }
-    all(&text[..n]);
+fn main(rt: HostRuntime) -> io::Result<()> {
+    let text = fs::read(&rt, "cases.txt")?;
+    all(&rt, text.as_slice())
 }

@@ -1,6 +1,7 @@
 // Runs the commands of cases.txt, one a line, over one recorder and one buffer, and writes what each answers. The head
 // of that file says what the commands are; what must be written stands in `stdout`.
-use libc::{STDERR_FILENO, STDOUT_FILENO};
+#![tactic(auto)]
+
 use recordings::Asked;
 use recordings_blanking::blank_recording;
 use recordings_format::MOST;
@@ -9,6 +10,7 @@ use recordings_reaching::{Reaching, ask_tail};
 use recordings_salvaging::{Report, Salvaged, salvage};
 use recordings_writing::{Recorded, Recorder};
 use sim0mq::{Judged, LIMIT, Refusal};
+use std::{fs, io};
 use vectors_lines::{NONE, find, last, part, spaced, starts};
 
 // How many bytes the buffer has: 4,096 messages of 35 bytes, their index, the trailer, and one message more.
@@ -43,36 +45,35 @@ struct Values {
 }
 
 // Writes a text.
-fn say(text: &[u8]) {
-    io::write_all(STDOUT_FILENO, text);
+fn say(rt: &impl Print, text: &[u8]) -> io::Result<()> {
+    rt.write_all(text)
 }
 
 // Writes a number after a space.
-fn figure(n: usize) {
-    say(b" ");
-    io::print_decimal(STDOUT_FILENO, n as u64);
+fn figure(rt: &impl Print, n: usize) -> io::Result<()> {
+    print!(rt; " {n}")
 }
 
 // Writes a line that is not understood.
-fn lost(line: &[u8]) {
-    say(b"unknown: ");
-    say(line);
-    say(b"\n");
+fn lost(rt: &impl Print, line: &[u8]) -> io::Result<()> {
+    say(rt, b"unknown: ")?;
+    say(rt, line)?;
+    say(rt, b"\n")
 }
 
 // Writes a refusal.
-fn refused(r: Refusal) {
-    say(b" refused");
-    figure(r.number as usize);
-    say(b" at");
-    figure(r.place);
+fn refused(rt: &impl Print, r: Refusal) -> io::Result<()> {
+    say(rt, b" refused")?;
+    figure(rt, r.number as usize)?;
+    say(rt, b" at")?;
+    figure(rt, r.place)
 }
 
 // Writes what opening or a recorder answers: a number, or the refusal.
-fn judged(j: Judged) {
+fn judged(rt: &impl Print, j: Judged) -> io::Result<()> {
     match j {
-        Judged::Accepted(n) => figure(n),
-        Judged::Refused(r) => refused(r),
+        Judged::Accepted(n) => figure(rt, n),
+        Judged::Refused(r) => refused(rt, r),
     }
 }
 
@@ -146,58 +147,56 @@ fn after(run: Run, a: Recorded) -> Run {
 }
 
 // The run after a call of the recorder, with a line of what it answered and of the state then.
-fn told(line: &[u8], run: Run, a: Recorded) -> Run {
+fn told(rt: &impl Print, line: &[u8], run: Run, a: Recorded) -> io::Result<Run> {
     let said = a.said;
     let r = a.recorder;
-    say(line);
-    say(b":");
-    judged(said);
-    say(b", state");
-    figure(r.written);
-    figure(r.messages);
+    say(rt, line)?;
+    say(rt, b":")?;
+    judged(rt, said)?;
+    say(rt, b", state")?;
+    figure(rt, r.written)?;
+    figure(rt, r.messages)?;
     if r.closed {
-        say(b" closed\n");
+        say(rt, b" closed\n")?;
     } else {
-        say(b" open\n");
+        say(rt, b" open\n")?;
     }
-    after(run, a)
+    Ok(after(run, a))
 }
 
 // `zeros N`: N zero bytes are added as a message.
-fn zeros(line: &[u8], run: Run, out: &mut [u8]) -> Run {
+fn zeros(rt: &impl Print, line: &[u8], run: Run, out: &mut [u8]) -> io::Result<Run> {
     let message = [0u8; LONG];
     let n = last(line, 6);
     if LONG < n {
-        lost(line);
-        return run;
+        lost(rt, line)?;
+        return Ok(run);
     }
-    told(line, run, add(part(&message, 0, n), run, out))
+    told(rt, line, run, add(part(&message, 0, n), run, out))
 }
 
 // The run after the short message is added n times.
 fn repeated(run: Run, n: usize, out: &mut [u8]) -> Run {
     let mut now = run;
-    let mut k = 0;
-    while k < n {
+    for _ in 0..n {
         now = after(now, short(now, out));
-        k += 1;
     }
     now
 }
 
 // `many N`: the short message is added N times, and only the last answer is told.
-fn many(line: &[u8], run: Run, out: &mut [u8]) -> Run {
+fn many(rt: &impl Print, line: &[u8], run: Run, out: &mut [u8]) -> io::Result<Run> {
     let n = last(line, 5);
     if n == 0 {
-        lost(line);
-        return run;
+        lost(rt, line)?;
+        return Ok(run);
     }
     if TIMES < n {
-        lost(line);
-        return run;
+        lost(rt, line)?;
+        return Ok(run);
     }
     let before = repeated(run, n - 1, out);
-    told(line, before, short(before, out))
+    told(rt, line, before, short(before, out))
 }
 
 // The run after messages of 77 and 35 bytes are added to none, by a recorder that is lent 223 bytes.
@@ -227,39 +226,39 @@ fn new(run: Run) -> Run {
 }
 
 // `state W M C`: the recorder's state has W bytes written and M messages, and is closed where C is 1; C is 0 or 1.
-fn state(line: &[u8], run: Run) -> Run {
+fn state(rt: &impl Print, line: &[u8], run: Run) -> io::Result<Run> {
     let n = numbers(line, 5);
     if !n.ended {
-        lost(line);
-        return run;
+        lost(rt, line)?;
+        return Ok(run);
     }
     if 1 < n.c {
-        lost(line);
-        return run;
+        lost(rt, line)?;
+        return Ok(run);
     }
-    Run {
+    Ok(Run {
         recorder: Recorder {
             written: n.a,
             messages: n.b,
             closed: n.c == 1,
         },
         room: run.room,
-    }
+    })
 }
 
 // `room N`: the recorder is lent the first N bytes of the buffer.
-fn room(line: &[u8], run: Run) -> Run {
+fn room(rt: &impl Print, line: &[u8], run: Run) -> io::Result<Run> {
     let n = last(line, 5);
     if BUFFER < n {
-        lost(line);
-        return run;
+        lost(rt, line)?;
+        return Ok(run);
     }
     let recorder = run.recorder;
-    Run { recorder, room: n }
+    Ok(Run { recorder, room: n })
 }
 
 // `set I B`: byte I of the buffer becomes B.
-fn set(line: &[u8], out: &mut [u8]) {
+fn set(rt: &impl Print, line: &[u8], out: &mut [u8]) -> io::Result<()> {
     let n = numbers(line, 3);
     if n.ended {
         let i = n.a;
@@ -267,228 +266,220 @@ fn set(line: &[u8], out: &mut [u8]) {
         if b < 256 {
             if i < out.len() {
                 out[i] = b as u8;
-                return;
+                return Ok(());
             }
         }
     }
-    lost(line);
+    lost(rt, line)
 }
 
 // `open A B`, of the bytes s: writes how they open.
-fn open(line: &[u8], s: &[u8]) {
-    say(line);
-    say(b":");
-    judged(recordings::open(s));
-    say(b"\n");
+fn open(rt: &impl Print, line: &[u8], s: &[u8]) -> io::Result<()> {
+    say(rt, line)?;
+    say(rt, b":")?;
+    judged(rt, recordings::open(s))?;
+    say(rt, b"\n")
 }
 
 // `ask A B K`, of the bytes s: writes where message k of them stands.
-fn ask(line: &[u8], s: &[u8], k: usize) {
-    say(line);
-    say(b":");
+fn ask(rt: &impl Print, line: &[u8], s: &[u8], k: usize) -> io::Result<()> {
+    say(rt, line)?;
+    say(rt, b":")?;
     match recordings::ask(s, k) {
         Asked::At(m) => {
-            figure(m.start);
-            figure(m.length);
+            figure(rt, m.start)?;
+            figure(rt, m.length)?;
         }
-        Asked::Refused(r) => refused(r),
+        Asked::Refused(r) => refused(rt, r)?,
     }
-    say(b"\n");
+    say(rt, b"\n")
 }
 
 // `table A B N`, of the bytes s: writes how they open with a table of n numbers, and the numbers of which they are the
 // first, each 7 before.
-fn table(line: &[u8], s: &[u8], n: usize) {
+fn table(rt: &impl Print, line: &[u8], s: &[u8], n: usize) -> io::Result<()> {
     let mut table = [7u32; SLOTS];
     if SLOTS < n {
-        lost(line);
-        return;
+        return lost(rt, line);
     }
     let said = recordings::open_into(s, &mut table[0..n]);
-    say(line);
-    say(b":");
-    judged(said);
-    say(b", table");
-    figures(&table);
-    say(b"\n");
+    say(rt, line)?;
+    say(rt, b":")?;
+    judged(rt, said)?;
+    say(rt, b", table")?;
+    figures(rt, &table)?;
+    say(rt, b"\n")
 }
 
 // Writes a number of a table.
-fn slot(n: u32) {
-    figure(n as usize);
+fn slot(rt: &impl Print, n: u32) -> io::Result<()> {
+    figure(rt, n as usize)
 }
 
 // Writes the numbers of a table.
-fn figures(table: &[u32; SLOTS]) {
-    let mut i = 0;
-    while i < SLOTS {
-        slot(table[i]);
-        i += 1;
+fn figures(rt: &impl Print, table: &[u32; SLOTS]) -> io::Result<()> {
+    for n in table {
+        slot(rt, *n)?;
     }
+    Ok(())
 }
 
 // `bytes A B`, of the bytes s: writes them as numbers.
-fn bytes(line: &[u8], s: &[u8]) {
-    say(line);
-    say(b":");
-    listed(s);
-    say(b"\n");
+fn bytes(rt: &impl Print, line: &[u8], s: &[u8]) -> io::Result<()> {
+    say(rt, line)?;
+    say(rt, b":")?;
+    listed(rt, s)?;
+    say(rt, b"\n")
 }
 
 // Writes a byte as a number.
-fn byte(b: u8) {
-    figure(b as usize);
+fn byte(rt: &impl Print, b: u8) -> io::Result<()> {
+    figure(rt, b as usize)
 }
 
 // Writes bytes as numbers.
-fn listed(s: &[u8]) {
-    let mut i = 0;
-    while i < s.len() {
-        byte(s[i]);
-        i += 1;
+fn listed(rt: &impl Print, s: &[u8]) -> io::Result<()> {
+    for b in s {
+        byte(rt, *b)?;
     }
+    Ok(())
 }
 
 // Writes what salvage reports: the length of the new recording, how many messages were kept, how many bytes dropped,
 // and why it stopped.
-fn reported(r: Report) {
-    figure(r.length);
-    say(b", kept");
-    figure(r.kept);
-    say(b" dropped");
-    figure(r.dropped);
+fn reported(rt: &impl Print, r: Report) -> io::Result<()> {
+    figure(rt, r.length)?;
+    say(rt, b", kept")?;
+    figure(rt, r.kept)?;
+    say(rt, b" dropped")?;
+    figure(rt, r.dropped)?;
     let stop = r.stop;
     match stop {
-        Stop::AtEnd => say(b" stopped at the end"),
-        Stop::AtMost => say(b" stopped at 4096 messages"),
-        Stop::AtFault(f) => refused(f),
+        Stop::AtEnd => say(rt, b" stopped at the end"),
+        Stop::AtMost => say(rt, b" stopped at 4096 messages"),
+        Stop::AtFault(f) => refused(rt, f),
     }
 }
 
 // Writes how a new recording opens, and whether it is the bytes s themselves.
-fn opened(recording: &[u8], s: &[u8]) {
-    say(b", opens");
-    judged(recordings::open(recording));
+fn opened(rt: &impl Print, recording: &[u8], s: &[u8]) -> io::Result<()> {
+    say(rt, b", opens")?;
+    judged(rt, recordings::open(recording))?;
     if check::same(recording, s) {
-        say(b", the same bytes");
+        say(rt, b", the same bytes")?;
     }
+    Ok(())
 }
 
 // Writes what salvaging the bytes s into `out` answers, and of the new recording how it opens.
-fn saved(s: &[u8], out: &mut [u8]) {
+fn saved(rt: &impl Print, s: &[u8], out: &mut [u8]) -> io::Result<()> {
     match salvage(s, out) {
-        Salvaged::Refused(r) => refused(r),
+        Salvaged::Refused(r) => refused(rt, r)?,
         Salvaged::Saved(r) => {
-            reported(r);
-            opened(part(out, 0, r.length), s);
+            reported(rt, r)?;
+            opened(rt, part(out, 0, r.length), s)?;
         }
     }
-    say(b"\n");
+    say(rt, b"\n")
 }
 
 // `salvage A B N`, of the bytes s: writes what salvaging them in an output of n bytes answers.
-fn salvaged(line: &[u8], s: &[u8], n: usize) {
+fn salvaged(rt: &impl Print, line: &[u8], s: &[u8], n: usize) -> io::Result<()> {
     let mut out = [0u8; BUFFER];
     if BUFFER < n {
-        lost(line);
-        return;
+        return lost(rt, line);
     }
-    say(line);
-    say(b":");
-    saved(s, &mut out[0..n]);
+    say(rt, line)?;
+    say(rt, b":")?;
+    saved(rt, s, &mut out[0..n])
 }
 
 // Writes what salvaging the first n of the bytes s answers.
-fn cut(s: &[u8], n: usize) {
+fn cut(rt: &impl Print, s: &[u8], n: usize) -> io::Result<()> {
     let mut out = [0u8; BUFFER];
-    say(b"cut at");
-    figure(n);
-    say(b":");
-    saved(part(s, 0, n), &mut out);
+    say(rt, b"cut at")?;
+    figure(rt, n)?;
+    say(rt, b":")?;
+    saved(rt, part(s, 0, n), &mut out)
 }
 
 // `cuts A B`, of the bytes s: writes what salvaging them answers where they are cut at each place, their end included.
-fn cuts(s: &[u8]) {
-    let mut n = 0;
-    while n < s.len() {
-        cut(s, n);
-        n += 1;
+fn cuts(rt: &impl Print, s: &[u8]) -> io::Result<()> {
+    for n in 0..=s.len() {
+        cut(rt, s, n)?;
     }
-    cut(s, n);
+    Ok(())
 }
 
 // Writes what blanking the bytes s into `out` answers, and of the output its bytes, where they are few, or how the copy
 // in it opens.
-fn copied(s: &[u8], out: &mut [u8]) {
-    judged(blank_recording(s, out));
+fn copied(rt: &impl Print, s: &[u8], out: &mut [u8]) -> io::Result<()> {
+    judged(rt, blank_recording(s, out))?;
     if SHOWN < out.len() {
-        say(b", opens");
-        judged(recordings::open(part(out, 0, s.len())));
+        say(rt, b", opens")?;
+        judged(rt, recordings::open(part(out, 0, s.len())))?;
     } else {
-        say(b", output");
-        listed(out);
+        say(rt, b", output")?;
+        listed(rt, out)?;
     }
-    say(b"\n");
+    say(rt, b"\n")
 }
 
 // `blank A B N`, of the bytes s: writes what blanking them in an output of n bytes, each 170, answers, and the output.
-fn blanked(line: &[u8], s: &[u8], n: usize) {
+fn blanked(rt: &impl Print, line: &[u8], s: &[u8], n: usize) -> io::Result<()> {
     let mut out = [170u8; BUFFER];
     if BUFFER < n {
-        lost(line);
-        return;
+        return lost(rt, line);
     }
-    say(line);
-    say(b":");
-    copied(s, &mut out[0..n]);
+    say(rt, line)?;
+    say(rt, b":")?;
+    copied(rt, s, &mut out[0..n])
 }
 
 // Writes where message k of a file of n bytes stands that ends in these, or how many of its last bytes are wanted.
-fn reached(n: usize, tail: &[u8], k: usize) {
+fn reached(rt: &impl Print, n: usize, tail: &[u8], k: usize) -> io::Result<()> {
     match ask_tail(n, tail, k) {
         Reaching::At(m) => {
-            figure(m.start);
-            figure(m.length);
+            figure(rt, m.start)?;
+            figure(rt, m.length)?;
         }
         Reaching::Wanted(w) => {
-            say(b" wanted");
-            figure(w);
+            say(rt, b" wanted")?;
+            figure(rt, w)?;
         }
-        Reaching::Refused(r) => refused(r),
+        Reaching::Refused(r) => refused(rt, r)?,
     }
-    say(b"\n");
+    say(rt, b"\n")
 }
 
 // `tail A B K` and `far A B N`: writes what asking for message k of a file of n bytes answers that ends in these.
-fn tail(line: &[u8], s: &[u8], n: usize, k: usize) {
-    say(line);
-    say(b":");
-    reached(n, s, k);
+fn tail(rt: &impl Print, line: &[u8], s: &[u8], n: usize, k: usize) -> io::Result<()> {
+    say(rt, line)?;
+    say(rt, b":")?;
+    reached(rt, n, s, k)
 }
 
 // Writes what asking for message k of the file s by its bytes from `at` on answers.
-fn tail_from(s: &[u8], at: usize, k: usize) {
-    say(b"from");
-    figure(at);
-    say(b":");
-    reached(s.len(), part(s, at, s.len()), k);
+fn tail_from(rt: &impl Print, s: &[u8], at: usize, k: usize) -> io::Result<()> {
+    say(rt, b"from")?;
+    figure(rt, at)?;
+    say(rt, b":")?;
+    reached(rt, s.len(), part(s, at, s.len()), k)
 }
 
 // `tails A B K`, of the bytes s: writes what asking for message k answers by each of their ends, from all of them to
 // none.
-fn tails(s: &[u8], k: usize) {
-    let mut at = 0;
-    while at < s.len() {
-        tail_from(s, at, k);
-        at += 1;
+fn tails(rt: &impl Print, s: &[u8], k: usize) -> io::Result<()> {
+    for at in 0..=s.len() {
+        tail_from(rt, s, at, k)?;
     }
-    tail_from(s, at, k);
+    Ok(())
 }
 
 // `= TEXT`: writes the text.
-fn heading(line: &[u8]) {
-    say(part(line, 2, line.len()));
-    say(b"\n");
+fn heading(rt: &impl Print, line: &[u8]) -> io::Result<()> {
+    say(rt, part(line, 2, line.len()))?;
+    say(rt, b"\n")
 }
 
 // Whether the first two numbers of a line are the bounds of a part of `out`.
@@ -503,114 +494,102 @@ fn bounds(n: Values, out: &[u8]) -> bool {
 }
 
 // Writes what a line says of the bytes of the buffer; or that it is not understood.
-fn reads(line: &[u8], out: &[u8]) {
+fn reads(rt: &impl Print, line: &[u8], out: &[u8]) -> io::Result<()> {
     let n = numbers(line, find(line, 0, b' '));
     let s = part(out, n.a, n.b);
     if !bounds(n, out) {
-        lost(line);
-        return;
+        return lost(rt, line);
     }
     if starts(line, b"open ") {
-        open(line, s);
-        return;
+        return open(rt, line, s);
     }
     if starts(line, b"bytes ") {
-        bytes(line, s);
-        return;
+        return bytes(rt, line, s);
     }
     if starts(line, b"cuts ") {
-        cuts(s);
-        return;
+        return cuts(rt, s);
     }
     if n.c == NONE {
-        lost(line);
-        return;
+        return lost(rt, line);
     }
     if starts(line, b"salvage ") {
-        salvaged(line, s, n.c);
-        return;
+        return salvaged(rt, line, s, n.c);
     }
     if starts(line, b"ask ") {
-        ask(line, s, n.c);
-        return;
+        return ask(rt, line, s, n.c);
     }
     if starts(line, b"blank ") {
-        blanked(line, s, n.c);
-        return;
+        return blanked(rt, line, s, n.c);
     }
     if starts(line, b"tail ") {
-        tail(line, s, n.b, n.c);
-        return;
+        return tail(rt, line, s, n.b, n.c);
     }
     if starts(line, b"far ") {
-        tail(line, s, n.c, 0);
-        return;
+        return tail(rt, line, s, n.c, 0);
     }
     if starts(line, b"tails ") {
-        tails(s, n.c);
-        return;
+        return tails(rt, s, n.c);
     }
     if starts(line, b"table ") {
-        table(line, s, n.c);
-        return;
+        return table(rt, line, s, n.c);
     }
-    lost(line);
+    lost(rt, line)
 }
 
 // The run after a line that calls the recorder; any other line is read.
-fn records(line: &[u8], run: Run, out: &mut [u8]) -> Run {
+fn records(rt: &impl Print, line: &[u8], run: Run, out: &mut [u8]) -> io::Result<Run> {
     if check::same(line, b"sample") {
-        return told(line, run, sample(run, out));
+        return told(rt, line, run, sample(run, out));
     }
     if check::same(line, b"short") {
-        return told(line, run, short(run, out));
+        return told(rt, line, run, short(run, out));
     }
     if check::same(line, b"bad") {
-        return told(line, run, bad(run, out));
+        return told(rt, line, run, bad(run, out));
     }
     if check::same(line, b"close") {
-        return told(line, run, close(run, out));
+        return told(rt, line, run, close(run, out));
     }
     if starts(line, b"zeros ") {
-        return zeros(line, run, out);
+        return zeros(rt, line, run, out);
     }
     if starts(line, b"many ") {
-        return many(line, run, out);
+        return many(rt, line, run, out);
     }
-    reads(line, out);
-    run
+    reads(rt, line, out)?;
+    Ok(run)
 }
 
 // The run after a line: one that says nothing, or writes a text, or says what the state and the buffer are, or another.
-fn turn(line: &[u8], run: Run, out: &mut [u8]) -> Run {
+fn turn(rt: &impl Print, line: &[u8], run: Run, out: &mut [u8]) -> io::Result<Run> {
     if comment(line) {
-        return run;
+        return Ok(run);
     }
     if starts(line, b"= ") {
-        heading(line);
-        return run;
+        heading(rt, line)?;
+        return Ok(run);
     }
     if check::same(line, b"new") {
-        return new(run);
+        return Ok(new(run));
     }
     if check::same(line, b"three") {
-        return three(out);
+        return Ok(three(out));
     }
     if starts(line, b"state ") {
-        return state(line, run);
+        return state(rt, line, run);
     }
     if starts(line, b"room ") {
-        return room(line, run);
+        return room(rt, line, run);
     }
     if starts(line, b"set ") {
-        set(line, out);
-        return run;
+        set(rt, line, out)?;
+        return Ok(run);
     }
-    records(line, run, out)
+    records(rt, line, run, out)
 }
 
 // Runs every line of `text`, in one buffer, which is zero at first and lent whole.
-fn all(text: &[u8]) {
+fn all(rt: &impl Print, text: &[u8]) -> io::Result<()> {
     let mut buffer = [0u8; BUFFER];
     let out: &mut [u8] = &mut buffer;
     let mut run = Run {
@@ -620,24 +599,14 @@ fn all(text: &[u8]) {
     let mut at = 0;
     while at < text.len() {
         let to = find(text, at, b'\n');
-        run = turn(part(text, at, to), run, out);
+        run = turn(rt, part(text, at, to), run, out)?;
         at = to + 1;
     }
+    Ok(())
 }
 
 // Runs the commands of the file cases.txt.
-fn main() {
-    let fd = os::open_read(b"cases.txt");
-    if fd < 0 {
-        os::fail(b"cases.txt");
-        return;
-    }
-    let mut text = [0u8; 65536];
-    let n = io::read_full(fd, &mut text);
-    libc::close(fd);
-    if n == text.len() {
-        io::write_all(STDERR_FILENO, b"cases.txt has more bytes than fit\n");
-        return;
-    }
-    all(&text[..n]);
+fn main(rt: HostRuntime) -> io::Result<()> {
+    let text = fs::read(&rt, "cases.txt")?;
+    all(&rt, text.as_slice())
 }

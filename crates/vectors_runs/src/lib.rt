@@ -1,9 +1,11 @@
 // What has been run of a case file, what each line of a case adds to it, and how a case ends, given what it was
 // answered with.
-ghost use Rattle.std.specs.Prelude.{◌≡◌, false, ◌+◌, ◌≤◌, min, length};
+#![tactic(auto)]
 
-use libc::STDOUT_FILENO;
+ghost use Rattle.std.specs.Prelude.{◌≡◌, false, ◌+◌, ◌≤◌, min, length, IfOk};
+
 use sim0mq::{FIELDS, ROW};
+use std::io;
 use vectors_lines::{ROOM, find, last, part, starts};
 
 // How many numbers a table has at most, and has where a case does not say.
@@ -71,78 +73,92 @@ pub fn next(n: usize) -> usize
 }
 
 // The run after a line that is not understood, which it says.
-fn lost(run: Run) -> Run
-    ensures { (result.cases ≡ run.cases) × (run.wrong ≤ result.wrong) }
+fn lost(rt: &impl Print, run: Run) -> io::Result<Run>
+    ensures cases { IfOk result (λ r. r.cases ≡ run.cases) }
+    ensures wrong { IfOk result (λ r. run.wrong ≤ r.wrong) }
 {
-    io::write_all(STDOUT_FILENO, b"line ");
-    io::print_decimal(STDOUT_FILENO, run.line as u64);
-    io::write_all(STDOUT_FILENO, b": not understood\n");
+    println!(rt; "line {}: not understood", run.line)?;
     let mut after = run;
     after.wrong = next(run.wrong);
-    after
+    Ok(after)
 }
 
 // The run after its line, where that does not end a case: a comment, the beginning of a case, or a line of one.
-pub fn turn(line: &[u8], run: Run, message: &mut [u8], expected: &mut [u8]) -> Run
-    ensures { (result.cases ≡ run.cases) × (run.wrong ≤ result.wrong) }
+pub fn turn(
+    rt: &impl Print,
+    line: &[u8],
+    run: Run,
+    message: &mut [u8],
+    expected: &mut [u8],
+) -> io::Result<Run>
+    ensures cases { IfOk result (λ r. r.cases ≡ run.cases) }
+    ensures wrong { IfOk result (λ r. run.wrong ≤ r.wrong) }
 {
     if comment(line) {
-        return run;
+        return Ok(run);
     }
     if starts(line, b"case ") {
-        return case(run);
+        return case(rt, run);
     }
     if run.begun {
-        return deed(line, run, message, expected);
+        return deed(rt, line, run, message, expected);
     }
-    lost(run)
+    lost(rt, run)
 }
 
 // The run after a line of a case, by the line's first word.
-fn deed(line: &[u8], run: Run, message: &mut [u8], expected: &mut [u8]) -> Run
-    ensures { (result.cases ≡ run.cases) × (run.wrong ≤ result.wrong) }
+fn deed(
+    rt: &impl Print,
+    line: &[u8],
+    run: Run,
+    message: &mut [u8],
+    expected: &mut [u8],
+) -> io::Result<Run>
+    ensures cases { IfOk result (λ r. r.cases ≡ run.cases) }
+    ensures wrong { IfOk result (λ r. run.wrong ≤ r.wrong) }
 {
     if starts(line, b"bytes ") {
-        return bytes(line, run, message);
+        return bytes(rt, line, run, message);
     }
     if starts(line, b"set ") {
-        return set(line, run, message);
+        return set(rt, line, run, message);
     }
     if starts(line, b"cut ") {
-        return cut(line, run);
+        return cut(rt, line, run);
     }
     if starts(line, b"table ") {
-        return table(line, run);
+        return table(rt, line, run);
     }
     if check::same(line, b"no table") {
-        return no_table(run);
+        return Ok(no_table(run));
     }
     if starts(line, b"asks ") {
-        return asks(line, run);
+        return Ok(asks(line, run));
     }
     if starts(line, b"blanks ") {
-        return blanks(line, run);
+        return blanks(rt, line, run);
     }
     if starts(line, b"gives ") {
-        return gives(line, run, expected);
+        return gives(rt, line, run, expected);
     }
-    writing(line, run)
+    writing(rt, line, run)
 }
 
 // The run after a line of a case that writes, which is run when the case ends: a call of the writer, or what is said of
 // its state or output.
-fn writing(line: &[u8], run: Run) -> Run
-    ensures { (result.cases ≡ run.cases) × (run.wrong ≤ result.wrong) }
+fn writing(rt: &impl Print, line: &[u8], run: Run) -> io::Result<Run>
+    ensures cases { IfOk result (λ r. r.cases ≡ run.cases) }
+    ensures wrong { IfOk result (λ r. run.wrong ≤ r.wrong) }
 {
     if starts(line, b"room ") {
-        return room(line, run);
+        return room(rt, line, run);
     }
     if writes(line) {
         let mut after = run;
         after.writes = true;
-        return after;
+        return Ok(after);
     }
-    lost(run)
+    lost(rt, run)
 }
 
 // Whether a case with this line writes: the line is a call of the writer, or says what its state is or its output
@@ -172,12 +188,13 @@ fn comment(line: &[u8]) -> bool {
 }
 
 // `case NAME`: a case begins, with no bytes and the whole table. The case before it, if it has no end, is wrong.
-fn case(run: Run) -> Run
-    ensures { (result.cases ≡ run.cases) × (run.wrong ≤ result.wrong) }
+fn case(rt: &impl Print, run: Run) -> io::Result<Run>
+    ensures cases { IfOk result (λ r. r.cases ≡ run.cases) }
+    ensures wrong { IfOk result (λ r. run.wrong ≤ r.wrong) }
 {
     let mut after = run;
     if run.begun {
-        after = lost(run);
+        after = lost(rt, run)?;
     }
     after.begun = true;
     after.name_from = run.from;
@@ -194,21 +211,23 @@ fn case(run: Run) -> Run
 }
 
 // `bytes TOKENS`: bytes are added to the message.
-fn bytes(line: &[u8], run: Run, message: &mut [u8]) -> Run
-    ensures { (result.cases ≡ run.cases) × (run.wrong ≤ result.wrong) }
+fn bytes(rt: &impl Print, line: &[u8], run: Run, message: &mut [u8]) -> io::Result<Run>
+    ensures cases { IfOk result (λ r. r.cases ≡ run.cases) }
+    ensures wrong { IfOk result (λ r. run.wrong ≤ r.wrong) }
 {
     let length = vectors_tokens::added(line, 6, message, run.length);
     if message.len() < length {
-        return lost(run);
+        return lost(rt, run);
     }
     let mut after = run;
     after.length = length;
-    after
+    Ok(after)
 }
 
 // `set I B`: byte I of the message is B.
-fn set(line: &[u8], run: Run, message: &mut [u8]) -> Run
-    ensures { (result.cases ≡ run.cases) × (run.wrong ≤ result.wrong) }
+fn set(rt: &impl Print, line: &[u8], run: Run, message: &mut [u8]) -> io::Result<Run>
+    ensures cases { IfOk result (λ r. r.cases ≡ run.cases) }
+    ensures wrong { IfOk result (λ r. run.wrong ≤ r.wrong) }
 {
     let space = find(line, 4, b' ');
     let i = last(part(line, 0, space), 4);
@@ -217,37 +236,39 @@ fn set(line: &[u8], run: Run, message: &mut [u8]) -> Run
         if i < run.length {
             if i < message.len() {
                 message[i] = b as u8;
-                return run;
+                return Ok(run);
             }
         }
     }
-    lost(run)
+    lost(rt, run)
 }
 
 // `cut N`: the message's first N bytes are kept.
-fn cut(line: &[u8], run: Run) -> Run
-    ensures { (result.cases ≡ run.cases) × (run.wrong ≤ result.wrong) }
+fn cut(rt: &impl Print, line: &[u8], run: Run) -> io::Result<Run>
+    ensures cases { IfOk result (λ r. r.cases ≡ run.cases) }
+    ensures wrong { IfOk result (λ r. run.wrong ≤ r.wrong) }
 {
     let n = last(line, 4);
     if run.length < n {
-        return lost(run);
+        return lost(rt, run);
     }
     let mut after = run;
     after.length = n;
-    after
+    Ok(after)
 }
 
 // `table N`: a table of N numbers is lent.
-fn table(line: &[u8], run: Run) -> Run
-    ensures { (result.cases ≡ run.cases) × (run.wrong ≤ result.wrong) }
+fn table(rt: &impl Print, line: &[u8], run: Run) -> io::Result<Run>
+    ensures cases { IfOk result (λ r. r.cases ≡ run.cases) }
+    ensures wrong { IfOk result (λ r. run.wrong ≤ r.wrong) }
 {
     let n = last(line, 6);
     if NUMBERS < n {
-        return lost(run);
+        return lost(rt, run);
     }
     let mut after = run;
     after.room = n;
-    after
+    Ok(after)
 }
 
 // `no table`: no table is lent.
@@ -270,44 +291,47 @@ fn asks(line: &[u8], run: Run) -> Run
 }
 
 // `blanks N`: the message is blanked into an output of N bytes.
-fn blanks(line: &[u8], run: Run) -> Run
-    ensures { (result.cases ≡ run.cases) × (run.wrong ≤ result.wrong) }
+fn blanks(rt: &impl Print, line: &[u8], run: Run) -> io::Result<Run>
+    ensures cases { IfOk result (λ r. r.cases ≡ run.cases) }
+    ensures wrong { IfOk result (λ r. run.wrong ≤ r.wrong) }
 {
     let n = last(line, 7);
     if ROOM < n {
-        return lost(run);
+        return lost(rt, run);
     }
     let mut after = run;
     after.blanks = true;
     after.output = n;
-    after
+    Ok(after)
 }
 
 // `room N`: the output that a message is written in has N bytes.
-fn room(line: &[u8], run: Run) -> Run
-    ensures { (result.cases ≡ run.cases) × (run.wrong ≤ result.wrong) }
+fn room(rt: &impl Print, line: &[u8], run: Run) -> io::Result<Run>
+    ensures cases { IfOk result (λ r. r.cases ≡ run.cases) }
+    ensures wrong { IfOk result (λ r. run.wrong ≤ r.wrong) }
 {
     let n = last(line, 5);
     if ROOM < n {
-        return lost(run);
+        return lost(rt, run);
     }
     let mut after = run;
     after.output = n;
-    after
+    Ok(after)
 }
 
 // `gives TEXT`: one more line of the text that is expected.
-fn gives(line: &[u8], run: Run, expected: &mut [u8]) -> Run
-    ensures { (result.cases ≡ run.cases) × (run.wrong ≤ result.wrong) }
+fn gives(rt: &impl Print, line: &[u8], run: Run, expected: &mut [u8]) -> io::Result<Run>
+    ensures cases { IfOk result (λ r. r.cases ≡ run.cases) }
+    ensures wrong { IfOk result (λ r. run.wrong ≤ r.wrong) }
 {
     let mut at = programs_pieces::put(part(line, 6, line.len()), expected, run.expects);
     at = programs_pieces::put(b"\n", expected, at);
     if expected.len() < at {
-        return lost(run);
+        return lost(rt, run);
     }
     let mut after = run;
     after.expects = at;
-    after
+    Ok(after)
 }
 
 // The length of the listing of `message`, put at the front of `out`: its first line alone where the case lends no
@@ -339,46 +363,50 @@ fn tabled(message: &[u8], table: &mut [u32], out: &mut [u8]) -> usize
 
 // The run after the end of a case that was answered with `given`. Where that is empty, or not the text that the case
 // expects, the case is wrong, and its name and the answer are printed.
-pub fn ended(text: &[u8], run: Run, given: &[u8], expected: &[u8]) -> Run
-    ensures { (result.begun ≡ false)
-        × (result.cases ≡ min (run.cases + 1) 18446744073709551615)
-        × (run.wrong ≤ result.wrong) }
+pub fn ended(
+    rt: &impl Print,
+    text: &[u8],
+    run: Run,
+    given: &[u8],
+    expected: &[u8],
+) -> io::Result<Run>
+    ensures begun { IfOk result (λ r. r.begun ≡ false) }
+    ensures cases { IfOk result (λ r. r.cases ≡ min (run.cases + 1) 18446744073709551615) }
+    ensures wrong { IfOk result (λ r. run.wrong ≤ r.wrong) }
 {
     let mut after = run;
     after.begun = false;
     after.cases = next(run.cases);
     if 0 < given.len() {
         if check::same(given, part(expected, 0, run.expects)) {
-            return after;
+            return Ok(after);
         }
     }
     let line = part(text, run.name_from, run.name_to);
-    io::write_all(STDOUT_FILENO, b"wrong: ");
-    io::write_all(STDOUT_FILENO, part(line, 5, line.len()));
-    io::write_all(STDOUT_FILENO, b"\n");
-    io::write_all(STDOUT_FILENO, given);
+    rt.write_all(b"wrong: ")?;
+    rt.write_all(part(line, 5, line.len()))?;
+    rt.write_all(b"\n")?;
+    rt.write_all(given)?;
     after.wrong = next(run.wrong);
-    after
+    Ok(after)
 }
 
 // Prints how many cases there are, and how many wrong ones, which it answers: a case that has no end is wrong too.
-pub fn report(run: Run) -> usize
-    ensures { run.wrong ≤ result }
+pub fn report(rt: &impl Print, run: Run) -> io::Result<usize>
+    ensures { IfOk result (λ n. run.wrong ≤ n) }
 {
-    let after = closed(run);
-    io::print_decimal(STDOUT_FILENO, after.cases as u64);
-    io::write_all(STDOUT_FILENO, b" cases, ");
-    io::print_decimal(STDOUT_FILENO, after.wrong as u64);
-    io::write_all(STDOUT_FILENO, b" wrong\n");
-    after.wrong
+    let after = closed(rt, run)?;
+    println!(rt; "{} cases, {} wrong", after.cases, after.wrong)?;
+    Ok(after.wrong)
 }
 
 // The run after its last line: a case that has no end is wrong.
-fn closed(run: Run) -> Run
-    ensures { (result.cases ≡ run.cases) × (run.wrong ≤ result.wrong) }
+fn closed(rt: &impl Print, run: Run) -> io::Result<Run>
+    ensures cases { IfOk result (λ r. r.cases ≡ run.cases) }
+    ensures wrong { IfOk result (λ r. run.wrong ≤ r.wrong) }
 {
     if run.begun {
-        return lost(run);
+        return lost(rt, run);
     }
-    run
+    Ok(run)
 }

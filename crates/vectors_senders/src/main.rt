@@ -1,11 +1,13 @@
 // Runs the commands of cases.txt, one a line, over one book of senders, and writes what each answers. The head of that
 // file says what the commands are; what must be written stands in `stdout`.
-use libc::{STDERR_FILENO, STDOUT_FILENO};
+#![tactic(auto)]
+
 use programs_pieces::put;
 use reading_header::Frame;
 use senders::{Closed, Taken};
 use senders_book::{BOOK_PLACES, Book, ID_BYTES, Id, Sender};
 use sim0mq::{Judged, Refusal};
+use std::{fs, io};
 use vectors_lines::wholes::{Whole, long_of, signed};
 use vectors_lines::{find, part, spaced, starts};
 use vectors_tokens::added;
@@ -20,85 +22,73 @@ const MOST: usize = 9223372036854775807;
 const ALL: u64 = 18446744073709551615;
 
 // Writes a text.
-fn say(text: &[u8]) {
-    io::write_all(STDOUT_FILENO, text);
+fn say(rt: &impl Print, text: &[u8]) -> io::Result<()> {
+    rt.write_all(text)
 }
 
 // Writes a number after a space.
-fn figure(n: usize) {
-    say(b" ");
-    io::print_decimal(STDOUT_FILENO, n as u64);
+fn figure(rt: &impl Print, n: usize) -> io::Result<()> {
+    print!(rt; " {n}")
 }
 
 // Writes a signed number after a space.
-fn whole(z: i64) {
-    let u = writing_puts::bits(z, ALL);
-    say(b" ");
-    if u <= MOST as u64 {
-        io::print_decimal(STDOUT_FILENO, u);
-        return;
-    }
-    say(b"-");
-    let down = ALL - u;
-    if down < ALL {
-        io::print_decimal(STDOUT_FILENO, down + 1);
-    }
+fn whole(rt: &impl Print, z: i64) -> io::Result<()> {
+    print!(rt; " {z}")
 }
 
 // Writes a byte as a number.
-fn byte(b: u8) {
-    figure(b as usize);
+fn byte(rt: &impl Print, b: u8) -> io::Result<()> {
+    figure(rt, b as usize)
 }
 
 // Writes bytes as numbers.
-fn listed(s: &[u8]) {
-    let mut i = 0;
-    while i < s.len() {
-        byte(s[i]);
-        i += 1;
+fn listed(rt: &impl Print, s: &[u8]) -> io::Result<()> {
+    for b in s {
+        byte(rt, *b)?;
     }
+    Ok(())
 }
 
 // Writes a line that is not understood, and hands back the book.
-fn lost(line: &[u8], book: Book) -> Book {
-    say(b"unknown: ");
-    say(line);
-    say(b"\n");
-    book
+fn lost(rt: &impl Print, line: &[u8], book: Book) -> io::Result<Book> {
+    say(rt, b"unknown: ")?;
+    say(rt, line)?;
+    say(rt, b"\n")?;
+    Ok(book)
 }
 
 // Writes a refusal.
-fn refused(r: Refusal) {
-    say(b": refused");
-    figure(r.number as usize);
-    say(b" at");
-    figure(r.place);
+fn refused(rt: &impl Print, r: Refusal) -> io::Result<()> {
+    say(rt, b": refused")?;
+    figure(rt, r.number as usize)?;
+    say(rt, b" at")?;
+    figure(rt, r.place)
 }
 
 // Writes what taking answers, and hands back the book after it.
-fn told(line: &[u8], t: Taken) -> Book {
+fn told(rt: &impl Print, line: &[u8], t: Taken) -> io::Result<Book> {
     let said = t.said;
-    say(line);
+    say(rt, line)?;
     match said {
         Judged::Accepted(i) => {
-            say(b": place");
-            figure(i);
+            say(rt, b": place")?;
+            figure(rt, i)?;
         }
-        Judged::Refused(r) => refused(r),
+        Judged::Refused(r) => refused(rt, r)?,
     }
-    say(b"\n");
-    t.book
+    say(rt, b"\n")?;
+    Ok(t.book)
 }
 
 // Writes what closing answers, and hands back the book after it.
-fn closed(line: &[u8], c: Closed) -> Book {
-    say(line);
+fn closed(rt: &impl Print, line: &[u8], c: Closed) -> io::Result<Book> {
+    say(rt, line)?;
     if c.held {
-        say(b": held\n");
+        say(rt, b": held\n")?;
     } else {
-        say(b": none held\n");
+        say(rt, b": none held\n")?;
     }
-    c.book
+    Ok(c.book)
 }
 
 // The eight bytes of a signed number, as an unsigned one.
@@ -127,24 +117,24 @@ fn built(line: &[u8], from: usize, w: Whole, message: &mut [u8]) -> usize {
 }
 
 // `take N SENDER`: takes the message.
-fn take(line: &[u8], book: Book) -> Book {
+fn take(rt: &impl Print, line: &[u8], book: Book) -> io::Result<Book> {
     let mut message = [0u8; ROOM];
     let w = signed(line, 5);
     let n = built(line, w.at, w, &mut message);
     if ROOM < n {
-        return lost(line, book);
+        return lost(rt, line, book);
     }
-    told(line, senders::take(book, part(&message, 0, n)))
+    told(rt, line, senders::take(book, part(&message, 0, n)))
 }
 
 // `message BYTES`: takes them.
-fn raw(line: &[u8], book: Book) -> Book {
+fn raw(rt: &impl Print, line: &[u8], book: Book) -> io::Result<Book> {
     let mut message = [0u8; ROOM];
     let n = added(line, 8, &mut message, 0);
     if ROOM < n {
-        return lost(line, book);
+        return lost(rt, line, book);
     }
-    told(line, senders::take(book, part(&message, 0, n)))
+    told(rt, line, senders::take(book, part(&message, 0, n)))
 }
 
 // Eight frames, of which the sender and the number stand at these places.
@@ -162,30 +152,31 @@ fn frames(sender: usize, numbered: usize) -> [Frame; 8] {
 }
 
 // `framed N A B SENDER`: takes the message by frames of which the sender stands at A and the number at B.
-fn framed(line: &[u8], book: Book) -> Book {
+fn framed(rt: &impl Print, line: &[u8], book: Book) -> io::Result<Book> {
     let mut message = [0u8; ROOM];
     let w = signed(line, 7);
     let a = spaced(line, w.at);
     let b = spaced(line, a.at);
     let n = built(line, b.at, w, &mut message);
     if ROOM < n {
-        return lost(line, book);
+        return lost(rt, line, book);
     }
     told(
+        rt,
         line,
         senders::take_framed(book, part(&message, 0, n), frames(a.value, b.value)),
     )
 }
 
 // `close C BYTES`: closes the sender of type code C with these value bytes.
-fn close(line: &[u8], book: Book) -> Book {
+fn close(rt: &impl Print, line: &[u8], book: Book) -> io::Result<Book> {
     let mut id = [0u8; ROOM];
     let c = spaced(line, 5);
     let n = added(line, c.at, &mut id, 0);
     if ROOM < n {
-        return lost(line, book);
+        return lost(rt, line, book);
     }
-    closed(line, senders::close(book, c.value, part(&id, 0, n)))
+    closed(rt, line, senders::close(book, c.value, part(&id, 0, n)))
 }
 
 // The book with this entry in place i.
@@ -198,7 +189,7 @@ fn with(book: Book, i: usize, entry: Sender) -> Book {
 }
 
 // `place N I H C L BYTES`: place I becomes this, held where H is 1.
-fn place(line: &[u8], book: Book) -> Book {
+fn place(rt: &impl Print, line: &[u8], book: Book) -> io::Result<Book> {
     let mut bytes = [0u8; ID_BYTES];
     let w = signed(line, 6);
     let i = spaced(line, w.at);
@@ -207,7 +198,7 @@ fn place(line: &[u8], book: Book) -> Book {
     let length = spaced(line, code.at);
     let n = added(line, length.at, &mut bytes, 0);
     if ID_BYTES < n {
-        return lost(line, book);
+        return lost(rt, line, book);
     }
     let entry = Sender {
         held: held.value == 1,
@@ -218,26 +209,26 @@ fn place(line: &[u8], book: Book) -> Book {
             bytes,
         },
     };
-    with(book, i.value, entry)
+    Ok(with(book, i.value, entry))
 }
 
 // Writes place i, if a sender is held there.
-fn shown(i: usize, e: Sender) {
+fn shown(rt: &impl Print, i: usize, e: &Sender) -> io::Result<()> {
     if e.held {
-        let id = e.id;
-        let bytes = id.bytes;
-        say(b" ");
-        figure(i);
-        say(b": number");
-        whole(e.number);
-        say(b", type");
-        figure(id.code);
-        say(b", length");
-        figure(id.length);
-        say(b", bytes");
-        listed(part(&bytes, 0, least(id.length)));
-        say(b"\n");
+        let id = &e.id;
+        say(rt, b" ")?;
+        figure(rt, i)?;
+        say(rt, b": number")?;
+        whole(rt, e.number)?;
+        say(rt, b", type")?;
+        figure(rt, id.code)?;
+        say(rt, b", length")?;
+        figure(rt, id.length)?;
+        say(rt, b", bytes")?;
+        listed(rt, part(&id.bytes, 0, least(id.length)))?;
+        say(rt, b"\n")?;
     }
+    Ok(())
 }
 
 // This length, or 32 where it is greater.
@@ -246,14 +237,12 @@ fn least(n: usize) -> usize {
 }
 
 // `book`: writes every place at which a sender is held.
-fn listing(book: Book) {
-    let senders = book.senders;
-    say(b"book\n");
-    let mut i: usize = 0;
-    while i < BOOK_PLACES {
-        shown(i, senders[i]);
-        i += 1;
+fn listing(rt: &impl Print, book: &Book) -> io::Result<()> {
+    say(rt, b"book\n")?;
+    for (i, sender) in book.senders.iter().enumerate() {
+        shown(rt, i, sender)?;
     }
+    Ok(())
 }
 
 // Whether `line` says nothing: it is empty or begins with #.
@@ -265,69 +254,59 @@ fn comment(line: &[u8]) -> bool {
 }
 
 // The book after a line that calls it.
-fn called(line: &[u8], book: Book) -> Book {
+fn called(rt: &impl Print, line: &[u8], book: Book) -> io::Result<Book> {
     if starts(line, b"take ") {
-        return take(line, book);
+        return take(rt, line, book);
     }
     if starts(line, b"message ") {
-        return raw(line, book);
+        return raw(rt, line, book);
     }
     if starts(line, b"framed ") {
-        return framed(line, book);
+        return framed(rt, line, book);
     }
     if starts(line, b"close ") {
-        return close(line, book);
+        return close(rt, line, book);
     }
     if starts(line, b"place ") {
-        return place(line, book);
+        return place(rt, line, book);
     }
-    lost(line, book)
+    lost(rt, line, book)
 }
 
 // The book after a line.
-fn turn(line: &[u8], book: Book) -> Book {
+fn turn(rt: &impl Print, line: &[u8], book: Book) -> io::Result<Book> {
     if comment(line) {
-        return book;
+        return Ok(book);
     }
     if starts(line, b"= ") {
-        say(part(line, 2, line.len()));
-        say(b"\n");
-        return book;
+        say(rt, part(line, 2, line.len()))?;
+        say(rt, b"\n")?;
+        return Ok(book);
     }
     if check::same(line, b"new") {
-        return senders::empty();
+        return Ok(senders::empty());
     }
     if check::same(line, b"book") {
-        listing(book);
-        return book;
+        listing(rt, &book)?;
+        return Ok(book);
     }
-    called(line, book)
+    called(rt, line, book)
 }
 
 // Runs every line of `text`, from the empty book on.
-fn all(text: &[u8]) {
+fn all(rt: &impl Print, text: &[u8]) -> io::Result<()> {
     let mut book = senders::empty();
     let mut at = 0;
     while at < text.len() {
         let to = find(text, at, b'\n');
-        book = turn(part(text, at, to), book);
+        book = turn(rt, part(text, at, to), book)?;
         at = to + 1;
     }
+    Ok(())
 }
 
 // Runs the commands of the file cases.txt.
-fn main() {
-    let fd = os::open_read(b"cases.txt");
-    if fd < 0 {
-        os::fail(b"cases.txt");
-        return;
-    }
-    let mut text = [0u8; 32768];
-    let n = io::read_full(fd, &mut text);
-    libc::close(fd);
-    if n == text.len() {
-        io::write_all(STDERR_FILENO, b"cases.txt has more bytes than fit\n");
-        return;
-    }
-    all(&text[..n]);
+fn main(rt: HostRuntime) -> io::Result<()> {
+    let text = fs::read(&rt, "cases.txt")?;
+    all(&rt, text.as_slice())
 }
