@@ -1,4 +1,6 @@
 // The bytes that a line adds to the message.
+#![tactic(auto)]
+
 ghost use Rattle.std.specs.Prelude.{◌+◌, ◌≤◌, length};
 
 use programs_pieces::put;
