@@ -207,7 +207,7 @@ fn case(rt: &impl Print, run: Run) -> io::Result<Run>
     after.blanks = false;
     after.writes = false;
     after.output = ROOM;
-    after
+    Ok(after)
 }
 
 // `bytes TOKENS`: bytes are added to the message.
