@@ -1,6 +1,8 @@
 // What blanking answers, as text: a line with the length or the refusal, then a line for each run of bytes of the copy
 // that were cleared. The first byte of the copy that is neither zero nor the message's own gets a line too, and so does
 // the first past the copy that is not as it was before.
+#![tactic(auto)]
+
 ghost use Rattle.std.specs.Prelude.{◌≡◌, ◌≤◌, max, length};
 
 use programs_pieces::{number, put};

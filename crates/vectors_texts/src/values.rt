@@ -32,11 +32,9 @@ fn value(value: Value, out: &mut [u8]) -> usize {
 // The place after the bytes of a view, each after a space.
 fn view(bytes: &[u8], out: &mut [u8], from: usize) -> usize {
     let mut at = put(b"view", out, from);
-    let mut i = 0;
-    while i < bytes.len() {
+    for b in bytes {
         at = put(b" ", out, at);
-        at = number(wide(bytes[i]) as u64, out, at);
-        i += 1;
+        at = number(wide(*b) as u64, out, at);
     }
     put(b"\n", out, at)
 }
