@@ -1,4 +1,6 @@
 // A case that writes: its calls of the writer, one a line, and what they answer, as text.
+#![tactic(auto)]
+
 ghost use Rattle.std.specs.Prelude.{◌≤◌, length};
 
 use crate::answers::NOTHING;
