@@ -6,7 +6,6 @@ use Rattle.sim0mq.specs.Blank.{output_after}
 use Rattle.reading_header.specs.declared.Answer.{Answer}
 use Rattle.reading_front.proofs.FrontCases.{told_refused, told_accepted}
 use Rattle.blanking.proofs.BlankCases.{blank_closed, blank-copyable, blank-is}
-use borrow.Author.Rules.{rules}
 use Rattle.blanking.proofs.blank.Goals as goal
 
 pub copied-requires : goal.copied-requires

@@ -1,12 +1,9 @@
 -- The fields blanked so far, and the rest of the message placed after them and blanked, are the whole.
 use native.Mathlib.Omega.{arith}
-use Prim.Native.Nat.{◌-◌}
-use mathlib.Core.Path.{◌≡◌, refl}
-use lib.ListN.{length, drop, length-take, length-drop}
-use Rattle.sim0mq.specs.Blank.{blanked}
-use Rattle.sim0mq.specs.Table.{placed, row_size}
-use Rattle.blanking.specs.Blanking.{fields_of}
-use Rattle.blanking.proofs.BlankCases.{Left, left_start, left_row, left_stands, left_renewed, left_end}
+use mathlib.Core.Path.{refl}
+use lib.ListN.{length-take, length-drop}
+use Rattle.sim0mq.specs.Table.{row_size}
+use Rattle.blanking.proofs.BlankCases.{left_start, left_row, left_stands, left_renewed, left_end}
 use borrow.Author.Rules.{rules}
 use Rattle.blanking.proofs.blank_fields.Goals as goal
 

@@ -1,12 +1,10 @@
-use native.Mathlib.Omega.{arith}
 use Prim.Native.Nat.{◌-◌}
-use mathlib.Core.Path.{◌≡◌, refl}
-use lib.ListN.{length, drop, length-take, length-drop}
+use mathlib.Core.Path.{◌≡◌}
+use lib.ListN.{length, drop}
 use Rattle.sim0mq.specs.Blank.{blanked}
-use Rattle.sim0mq.specs.Table.{placed, row_size}
+use Rattle.sim0mq.specs.Table.{placed}
 use Rattle.blanking.specs.Blanking.{fields_of}
-use Rattle.blanking.proofs.BlankCases.{Left, left_start, left_row, left_stands, left_renewed, left_end}
-use borrow.Author.Rules.{rules}
+use Rattle.blanking.proofs.BlankCases.{Left}
 use Rattle.blanking.proofs.blank_fields.Given as goal
 
 abbrev pub invariant-loop-k : goal.invariant-loop-k

@@ -8,7 +8,6 @@ use Rattle.sim0mq.specs.Answer.{length_of}
 use Rattle.sim0mq.specs.Blank.{output_after}
 use Rattle.sim0mq.specs.Views.{judged}
 use Rattle.blanking.proofs.BlankCases.{copy-refused, copy-short, copy-blankable, copy-made}
-use borrow.Author.Rules.{rules}
 use Rattle.blanking.proofs.copied_by.Goals as goal
 
 pub returns-then-out-message : goal.returns-then-out-message

@@ -1,7 +1,6 @@
 -- A text of one byte is stored, and zeros come after it; else a text is put, and zeros after it.
 use native.Mathlib.Omega.{arith}
 use lib.ListN.{get_or, length-set}
-use borrow.Author.Rules.{rules}
 use Rattle.blanking.proofs.RenewLaws.{renewed_byte, renewed_one, renewed}
 use Rattle.blanking.proofs.renew.Goals as goal
 

@@ -1,5 +1,4 @@
 -- The two cases are the definition's; a division spares the product.
-use borrow.Author.Rules.{rules}
 use mathlib.Core.Path.{sym, ap, ◌∙◌}
 use Rattle.reading_front.specs.Front.{lent_of}
 use Rattle.reading_front.specs.declared.Lent.{Lent}

@@ -5,7 +5,6 @@ use Rattle.sim0mq.specs.Message.{enough, limit}
 use Rattle.reading_header.specs.declared.Answer.{Answer}
 use Rattle.reading_header.specs.Frames.{told}
 use Rattle.reading_front.proofs.FrontCases.{told_refused, told_accepted, front_long, front_stop, front-room, front-fine}
-use borrow.Author.Rules.{rules}
 use Rattle.reading_front.proofs.opened.Goals as goal
 
 pub returns-then-message-gt-LIMIT : goal.returns-then-message-gt-LIMIT

@@ -1,6 +1,5 @@
 -- Each return is a case of the definition.
 use native.Mathlib.Omega.{arith}
-use borrow.Author.Rules.{rules}
 use mathlib.Core.Path.{sym, ◌∙◌}
 use Rattle.reading_magic.proofs.MagicCases.{digit_short, digit_low, digit_high, digit_fine}
 use Rattle.reading_magic.proofs.digit.Goals as goal

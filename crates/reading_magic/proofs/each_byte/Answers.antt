@@ -1,5 +1,4 @@
 -- The calls are the definition's steps, in its order.
-use borrow.Author.Rules.{rules}
 use mathlib.Core.Path.{sym, ap, ◌∙◌}
 use Rattle.sim0mq.specs.Views.{judged}
 use Rattle.reading_magic.proofs.MagicCases.{magic_stop, magic-first, magic-second, magic-edition}

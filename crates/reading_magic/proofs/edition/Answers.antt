@@ -1,5 +1,4 @@
 -- Each return is a case of the definition.
-use borrow.Author.Rules.{rules}
 use mathlib.Core.Path.{sym, ◌∙◌}
 use Rattle.reading_magic.proofs.MagicCases.{edition_fine, edition_first, edition_second}
 use Rattle.reading_magic.proofs.edition.Goals as goal

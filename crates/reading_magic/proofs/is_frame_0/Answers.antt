@@ -1,6 +1,5 @@
 -- Each return is a case of the definition.
 use native.Mathlib.Omega.{arith}
-use borrow.Author.Rules.{rules}
 use Rattle.reading_magic.proofs.ThreeNumbers.{frame_0_short, frame-0-first, frame-0-next, frame-0-digits}
 use Rattle.reading_magic.proofs.is_frame_0.Goals as goal
 

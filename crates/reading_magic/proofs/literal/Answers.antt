@@ -1,11 +1,8 @@
 -- What is left of the bytes from here on answers for all of them.
-use borrow.Author.Rules.{rules}
 use mathlib.Core.Path.{ap, ◌≡◌, refl, sym, ◌∙◌}
 use Rattle.sim0mq.specs.Answer.{fine}
 use native.Mathlib.Omega.{arith}
-use Prim.Native.Nat.{◌≤◌, ◌-◌}
-use lib.ListN.{drop}
-use Rattle.sim0mq.specs.Header.{literal, magic_bytes}
+use Rattle.sim0mq.specs.Header.{magic_bytes}
 use Rattle.reading_magic.proofs.MagicCases.{frame_begins, literal_short, literal_wrong, literal_next, literal_done}
 use Rattle.reading_magic.proofs.literal.Goals as goal
 

@@ -1,6 +1,5 @@
 -- Where the three numbers are frame 0's it is taken, as it is byte by byte.
 use native.Mathlib.Omega.{arith}
-use borrow.Author.Rules.{rules}
 use mathlib.Core.Path.{sym, ◌∙◌}
 use Rattle.reading_magic.proofs.ThreeNumbers.{frame_0_taken}
 use Rattle.reading_magic.proofs.magic.Goals as goal

@@ -1,5 +1,4 @@
 -- Each return is a case of the definition, in the order of the tests.
-use borrow.Author.Rules.{rules}
 use Rattle.sim0mq.specs.Message.{limit}
 use Rattle.reading_parts.proofs.LeadCases.{product_small, odd_code, odd-size, odd-fields, odd_base, odd-end, end-told}
 use Rattle.reading_parts.proofs.agrees.Goals as goal

@@ -1,13 +1,8 @@
 -- What is kept of the fields from here on is what is kept of the run; each turn keeps one.
-use borrow.Author.Rules.{rules}
 use native.Mathlib.Omega.{arith}
-use Prim.Native.Nat.{◌+◌, ◌-◌, ◌≤◌}
+use Prim.Native.Nat.{◌-◌}
 use mathlib.Core.Path.{◌≡◌, refl, sym, ◌∙◌, subst}
-use mathlib.Core.List.{map}
-use lib.ListN.{length}
-use Rattle.sim0mq.specs.Payload.{moved}
-use Rattle.reading_runs.specs.Runs.{alike_fields, far}
-use Rattle.reading_parts.specs.Kept.{kept_all, Small}
+use Rattle.reading_parts.specs.Kept.{Small}
 use Rattle.reading_parts.proofs.RunCases.{run_done, run_reach, run_start, run_kept, run_next, run_small}
 use Rattle.reading_parts.proofs.keep_each.Goals as goal
 

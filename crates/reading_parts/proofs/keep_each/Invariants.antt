@@ -1,13 +1,10 @@
-use borrow.Author.Rules.{rules}
-use native.Mathlib.Omega.{arith}
 use Prim.Native.Nat.{◌+◌, ◌-◌, ◌≤◌}
-use mathlib.Core.Path.{◌≡◌, refl, sym, ◌∙◌, subst}
+use mathlib.Core.Path.{◌≡◌}
 use mathlib.Core.List.{map}
 use lib.ListN.{length}
 use Rattle.sim0mq.specs.Payload.{moved}
 use Rattle.reading_runs.specs.Runs.{alike_fields, far}
-use Rattle.reading_parts.specs.Kept.{kept_all, Small}
-use Rattle.reading_parts.proofs.RunCases.{run_done, run_reach, run_start, run_kept, run_next, run_small}
+use Rattle.reading_parts.specs.Kept.{kept_all}
 use Rattle.reading_parts.proofs.keep_each.Given as goal
 
 abbrev pub invariant-loop-j : goal.invariant-loop-j

@@ -1,5 +1,4 @@
 -- Where its numbers agree, a run is kept as the fields that it has; else nothing is.
-use borrow.Author.Rules.{rules}
 use native.Mathlib.Omega.{arith}
 use mathlib.Core.Path.{sym, ◌∙◌}
 use Rattle.sim0mq.specs.Table.{row_size}

@@ -1,5 +1,4 @@
 -- Where there is no row nothing is kept, and of one field what is kept of a field.
-use borrow.Author.Rules.{rules}
 use native.Mathlib.Omega.{arith}
 use mathlib.Core.Path.{sym, subst}
 use Rattle.reading_parts.specs.Kept.{Small}

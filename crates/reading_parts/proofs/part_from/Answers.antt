@@ -1,21 +1,15 @@
 -- The answer from here is the answer of the whole, and what is kept from here on is what is kept of the whole: outside,
 -- from the next field on, or from the next after a run of fields that are alike; inside, from the field's next mark on.
 -- No step lacks a byte, so there are no more steps than bytes.
-use borrow.Author.Rules.{rules}
 use native.Mathlib.Omega.{arith}
-use Prim.Native.Nat.{ℕ, ◌+◌, ◌-◌, ◌<◌, ◌≤◌}
-use mathlib.Core.Path.{◌≡◌, refl, sym, ap, ◌∙◌, subst}
-use mathlib.Core.List.{map}
+use Prim.Native.Nat.{ℕ, ◌+◌, ◌-◌, ◌<◌}
+use mathlib.Core.Path.{refl, sym, ap, ◌∙◌, subst}
 use lib.ListN.{length}
 use Rattle.sim0mq.specs.Answer.{fine}
-use Rattle.sim0mq.specs.Mark.{marks}
-use Rattle.sim0mq.specs.Payload.{moved}
 use Rattle.sim0mq.specs.Table.{row_size}
 use Rattle.sim0mq.specs.Views.{judged}
 use Rattle.reading_heads.specs.Heads.{headed}
 use Rattle.reading_runs.proofs.RunLaws.{lead}
-use Rattle.reading_parts.specs.Parts.{steps_from, rest_steps}
-use Rattle.reading_parts.specs.Kept.{before_fault, kept_all, kept_rest}
 use Rattle.sim0mq_marks.proofs.MarkCases.{marks_done, marks_more, marks_stop}
 use Rattle.sim0mq_marks.proofs.ByLaws.{mark_by_last}
 use Rattle.reading_parts.proofs.PartCases.{mark_goes, head_goes, values_goes, field_head_stop, field-mark-stop, field-values-stop, field-taken, taken-end, field_small, rest_short, rest_start, steps_over, steps_end, steps_stop, steps_more}

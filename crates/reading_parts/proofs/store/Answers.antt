@@ -1,6 +1,5 @@
 -- Six stores in a row are the run of stores that they write out, and each number fits.
 use native.Mathlib.Omega.{arith}
-use borrow.Author.Rules.{rules}
 use lib.ListN.{length-set}
 use native.Mathlib.Numerals.{towards_suc}
 use Rattle.sim0mq.specs.Payload.{moved}

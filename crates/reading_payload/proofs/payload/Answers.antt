@@ -1,6 +1,5 @@
 -- The part is judged by itself, and its refusal moved to its place in the message; past the message's end there is no
 -- part.
-use borrow.Author.Rules.{rules}
 use native.Mathlib.Omega.{arith}
 use Prim.Native.Nat.{ℕ, ◌+◌, ◌-◌}
 use mathlib.Core.Path.{sym, ap, ◌∙◌, subst}
