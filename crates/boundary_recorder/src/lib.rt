@@ -1,6 +1,8 @@
 // The library's calls for C and Rust that write a recording: a slice crosses as a pointer and a length, the recorder's
 // state as numbers, and an answer as numbers in a slice that the caller lends. Each returns 0 where it is granted, the
 // refusal's number where it is refused, and 255 where the lent answer is too short; then nothing is written.
+#![tactic(auto)]
+
 ghost use Rattle.std.specs.Prelude.{◌≡◌, ◌++◌, ◌<◌, length, get_or};
 ghost use Rattle.sim0mq.specs.Views.{judged};
 ghost use Rattle.boundary_crossing.specs.Numbers.{length_numbers};

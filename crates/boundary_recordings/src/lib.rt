@@ -2,6 +2,8 @@
 // crosses as a pointer and a length, and an answer as numbers in a slice that the caller lends. Each returns 0 where it
 // is granted, the refusal's number where it is refused, and 255 where the lent answer is too short; then nothing is
 // written.
+#![tactic(auto)]
+
 ghost use Rattle.std.specs.Prelude.{◌≡◌, ◌∷◌, ◌<◌, length, get_or};
 ghost use Rattle.sim0mq.specs.Message.{no_table, table as table_of};
 ghost use Rattle.recordings_format.specs.Edition.{newest};
