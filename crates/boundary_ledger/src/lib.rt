@@ -1,6 +1,8 @@
 // The library's calls for C and Rust that keep the deck ledger: ledger and book cross as lent slices of numbers that a
 // call takes and leaves, and an answer as numbers in a slice that the caller lends. Each returns 0 where it is granted,
 // the refusal's number where it is refused, and 255 where the lent answer is too short; then nothing is written.
+#![tactic(auto, unfolding(boundary_giving::specs::Given::given, boundary_giving::specs::Given::returned, boundary_giving::specs::Given::answer_after))]
+
 ghost use Rattle.std.specs.Prelude.{◌≡◌, ◌≤◌, ◌<◌, length, get_or};
 ghost use Rattle.sim0mq.specs.Table.{stored};
 ghost use Rattle.sim0mq.specs.Views.{judged};
@@ -47,6 +49,7 @@ fn put_decks(heads: [u16; DECKS], decks: &mut [u16])
 }
 
 // Musters the message by the ledger and the book of these numbers: the sender's place in the book, or the refusal.
+#[tactic(auto, unfolding(crate::specs::Calls::mustering_in, crate::specs::Calls::decks_in, crate::specs::Calls::book_in))]
 fn muster_in(decks: &mut [u16], book: &mut [u64], message: &[u8]) -> Judged
     ensures answer { judged result ≡ place_in (mustering_in decks.old book.old message.now) }
     ensures decks { decks.new
