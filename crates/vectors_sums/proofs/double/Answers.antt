@@ -1,5 +1,4 @@
 -- vectors_sums::double is safe: the bits are asked for where the double is no NaN.
-use borrow.Author.Rules.{rules}
 use Rattle.sim0mq_kinds.proofs.Nan.{no_nan}
 use Rattle.vectors_sums.proofs.double.Goals as goal
 
