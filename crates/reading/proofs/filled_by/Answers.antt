@@ -15,6 +15,7 @@ pub overflow_mul-n : goal.overflow_mul-n
 unfolding row_size
 overflow_mul-n c =
     let room = c.requires.room in
+    let fits = c.slice_known-1.given in
     omega arith
 
 pub copied-requires : goal.copied-requires
