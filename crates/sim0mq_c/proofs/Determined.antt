@@ -1,5 +1,5 @@
--- The contract of each call is an equation for its result and for each buffer that it may write, so any two outcomes that
--- it allows are equal.
+-- The contract of each call is an equation for its result and for each buffer that it may write, so any two outcomes
+-- that it allows are equal.
 use Rattle.determining.specs.Outcomes.{Determines}
 use Rattle.determining.proofs.Equations.{equated}
 use Rattle.sim0mq_c.proofs.messages.sim0mq_read.Reads as c_read

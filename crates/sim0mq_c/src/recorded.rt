@@ -1,4 +1,5 @@
-// The calls of boundary_recordings, which open recordings, ask for a message of one, and salvage a cut one, for C and Rust.
+// The calls of boundary_recordings, which open recordings, ask for a message of one, and salvage a cut one, for C and
+// Rust.
 ghost use Rattle.std.specs.Prelude.{◌≡◌, length};
 ghost use Rattle.sim0mq.specs.Message.{no_table, table as table_of};
 ghost use Rattle.recordings_format.specs.Edition.{newest};
