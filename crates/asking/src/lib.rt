@@ -5,11 +5,10 @@ ghost use Rattle.std.specs.Prelude.{◌≡◌, ◌+◌};
 ghost use Rattle.reading_fields.specs.Items.{fielded, seen};
 ghost use Rattle.asking.specs.Asking.{asked, view_of, view_place, field_in};
 
-use reading_fields::{Field, Fielded};
-use reading_front::{Lent, opened};
-use reading_header::Said;
+use reading_fields::Field;
+use reading_front::opened;
 use reading_payload::payload;
-use sim0mq::{Judged, ROW, Refusal};
+use sim0mq::{ROW, Reason, Refusal, refuse};
 use sim0mq_numbers::wide32;
 
 // The field whose row this is.
@@ -28,29 +27,16 @@ fn field_in(row: &[u32; ROW]) -> Field
 
 // The field k of the message: what is known of it, with places in the message; or the refusal, which is reading's with
 // no table, or 16.
-pub fn ask(message: &[u8], k: usize) -> Fielded
+pub fn ask(message: &[u8], k: usize) -> Result<Field, Refusal>
     ensures { fielded result ≡ asked message.now k }
 {
-    let o = opened(message, Lent::NoTable);
-    let said = o.said;
-    match said {
-        Said::Refused(r) => Fielded::Refused(r),
-        Said::Accepted(e) => {
-            let mut row = [0u32; ROW];
-            match payload(message, e.next, e.fields, k, &mut row) {
-                Judged::Refused(r) => Fielded::Refused(r),
-                Judged::Accepted(_) => {
-                    if e.fields <= k {
-                        return Fielded::Refused(Refusal {
-                            number: 16,
-                            place: 0,
-                        });
-                    }
-                    Fielded::Accepted(field_in(&row))
-                }
-            }
-        }
+    let e = opened(message, None).said?;
+    let mut row = [0u32; ROW];
+    let _steps = payload(message, e.next, e.fields, k, &mut row)?;
+    if e.fields <= k {
+        return refuse(Reason::NoSuchItem, 0);
     }
+    Ok(field_in(&row))
 }
 
 // The very part of the message that holds field k's value bytes; empty where asking is refused.
@@ -60,8 +46,8 @@ pub fn view(message: &[u8], k: usize) -> &[u8]
         × (result.ref_ptr.1 ≡ message.entry.ref_ptr.1 + view_place (asked message.now k)) }
 {
     match ask(message, k) {
-        Fielded::Refused(_) => &message[0..0],
-        Fielded::Accepted(f) => {
+        Err(_) => &message[0..0],
+        Ok(f) => {
             let first = f.first;
             let end = first + f.size;
             &message[first..end]

@@ -1,7 +1,9 @@
 -- The values of scalar fields (01, "What reading returns" and refusal 17; 000, 2.1 and 2.2.1, 2.2.2, 2.2.9): codes 0 to
 -- 8, 25 and 26.
-use Rattle.std.specs.Prelude.{ℕ, ◌+◌, ◌≤◌, ◌≡◌, cond, List, length, ltb, eqb}
+use Rattle.std.specs.Prelude.{ℕ, ◌+◌, ◌≤◌, ◌≡◌, cond, List, length, ltb, eqb, Result}
 use Rattle.sim0mq.specs.Answer.{Answer, fine, refused, ◌>>=◌, byte, big}
+use Rattle.sim0mq.specs.declared.Refusal.{Refusal}
+use Rattle.sim0mq.specs.Views.{said_as}
 use Rattle.sim0mq.specs.Codes.{counts_of, marking_of, width_of}
 use Rattle.sim0mq.specs.Field.{Field}
 use Rattle.sim0mq.specs.Mark.{Kind, plain, money, money_per, unknown, kind_of}
@@ -11,8 +13,6 @@ use Rattle.asking.specs.Asking.{asked}
 use Rattle.sim0mq_kinds.specs.declared.Mark.{Mark}
 use Rattle.sim0mq_kinds.specs.declared.Scalar.{Scalar}
 use Rattle.sim0mq_kinds.specs.declared.Scalar.TheVariants.{Byte, Short, Int, Long, Boolean, Char8, Char16}
-use Rattle.asking_scalars.specs.declared.answer.Value.{Value}
-use Rattle.asking_scalars.specs.declared.answer.Value.TheVariants.{Is, Refused}
 
 -- The mark at `at`, whose unit type is of this kind: unit type, currency and display, 0 where it has none.
 unfoldable pub mark_of : List ℕ → ℕ → Kind → Mark
@@ -55,6 +55,5 @@ value s k = do
   scalar_of s f
 
 -- Each case of an answer, as an answer of the definitions.
-abbrev pub valued : Value → Answer Scalar
-valued (Is v) = fine v
-valued (Refused r) = refused r.number r.place
+abbrev pub valued : Result Scalar Refusal → Answer Scalar
+valued r = said_as (λ v. v) r

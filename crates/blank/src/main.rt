@@ -2,23 +2,19 @@
 // refused.
 #![tactic(auto)]
 
-use programs_input::Input;
-use reading::Reading;
-use sim0mq::{Judged, LIMIT, Refusal};
+use sim0mq::{LIMIT, Refusal};
 use std::io;
 
 // Writes `bytes` to standard output; a line to standard error where that cannot be done.
 fn write(rt: &(impl Print + Eprint), bytes: &[u8]) -> io::Result<()> {
-    match rt.write_all(bytes) {
-        Ok(()) => Ok(()),
-        Err(_) => rt.eprintln("blank: cannot write standard output"),
-    }
+    rt.write_all(bytes)
+        .or_else(|_| rt.eprintln("blank: cannot write standard output"))
 }
 
 // Writes the line of a refusal.
 fn refused(rt: &(impl Print + Eprint), refusal: Refusal) -> io::Result<()> {
     let mut line = [0u8; 72];
-    let n = programs_listing::first_line(Reading::Refused(refusal), &mut line);
+    let n = programs_listing::first_line(Err(refusal), &mut line);
     write(rt, &line[..n])
 }
 
@@ -26,8 +22,8 @@ fn refused(rt: &(impl Print + Eprint), refusal: Refusal) -> io::Result<()> {
 fn print(rt: &(impl Print + Eprint), message: &[u8]) -> io::Result<()> {
     let mut copy = [0u8; LIMIT];
     match blanking::blank(message, &mut copy) {
-        Judged::Accepted(length) => write(rt, &copy[0..length]),
-        Judged::Refused(refusal) => refused(rt, refusal),
+        Ok(length) => write(rt, &copy[0..length]),
+        Err(refusal) => refused(rt, refusal),
     }
 }
 
@@ -36,7 +32,7 @@ fn print(rt: &(impl Print + Eprint), message: &[u8]) -> io::Result<()> {
 fn main(rt: HostRuntime) -> io::Result<()> {
     let mut bytes = [0u8; LIMIT + 1];
     match programs_input::fill(&mut rt.stdin(), &mut bytes) {
-        Input::Bytes(n) => print(&rt, &bytes[0..n]),
-        Input::Failed => rt.eprintln("blank: cannot read standard input"),
+        Ok(n) => print(&rt, &bytes[..n]),
+        Err(_) => rt.eprintln("blank: cannot read standard input"),
     }
 }

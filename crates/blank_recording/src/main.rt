@@ -1,10 +1,8 @@
 // Writes the blanked copy of the recording on standard input, or the line of its refusal.
 #![tactic(auto)]
 
-use programs_input::Input;
-use reading::Reading;
 use recordings_blanking::blank_recording;
-use sim0mq::{Judged, Refusal};
+use sim0mq::Refusal;
 use std::alloc::{AllocError, Global};
 use std::io;
 
@@ -13,16 +11,13 @@ const RECORDING: usize = 3670016;
 
 // Writes `bytes` to standard output; a line to standard error where that cannot be done.
 fn write(rt: &(impl Print + Eprint), bytes: &[u8]) -> io::Result<()> {
-    match rt.write_all(bytes) {
-        Ok(()) => Ok(()),
-        Err(_) => rt.eprintln("blank_recording: cannot write standard output"),
-    }
+    rt.write_all(bytes).or_else(|_| rt.eprintln("blank_recording: cannot write standard output"))
 }
 
 // Writes the line of a refusal.
 fn refused(rt: &(impl Print + Eprint), refusal: Refusal) -> io::Result<()> {
     let mut line = [0u8; 72];
-    let n = programs_listing::first_line(Reading::Refused(refusal), &mut line);
+    let n = programs_listing::first_line(Err(refusal), &mut line);
     write(rt, &line[..n])
 }
 
@@ -31,20 +26,12 @@ fn room(alloc: Global) -> Result<Vec<u8>, AllocError> {
     vec![in alloc; 0; RECORDING + 1]
 }
 
-// The first n bytes; none where there are not so many.
-fn front(bytes: &[u8], n: usize) -> &[u8] {
-    if bytes.len() < n {
-        return &bytes[0..0];
-    }
-    &bytes[0..n]
-}
-
 // Writes the blanked copy of `recording`, or the line of its refusal.
 fn print(rt: &(impl Print + Eprint + AllocGlobal), recording: &[u8]) -> io::Result<()> {
     let mut copy = room(rt.alloc())?;
     match blank_recording(recording, &mut copy) {
-        Judged::Accepted(length) => write(rt, front(&copy, length)),
-        Judged::Refused(refusal) => refused(rt, refusal),
+        Ok(length) => write(rt, copy.get(..length).unwrap_or(&[])),
+        Err(refusal) => refused(rt, refusal),
     }
 }
 
@@ -52,12 +39,10 @@ fn print(rt: &(impl Print + Eprint + AllocGlobal), recording: &[u8]) -> io::Resu
 fn main(rt: HostRuntime) -> io::Result<()> {
     let mut bytes = room(rt.alloc())?;
     match programs_input::fill(&mut rt.stdin(), &mut bytes) {
-        Input::Bytes(n) => {
-            if RECORDING < n {
-                return rt.eprintln("blank_recording: the recording has more than 3670016 bytes");
-            }
-            print(&rt, &bytes[0..n])
+        Ok(n) if RECORDING < n => {
+            rt.eprintln("blank_recording: the recording has more than 3670016 bytes")
         }
-        Input::Failed => rt.eprintln("blank_recording: cannot read standard input"),
+        Ok(n) => print(&rt, &bytes[..n]),
+        Err(_) => rt.eprintln("blank_recording: cannot read standard input"),
     }
 }

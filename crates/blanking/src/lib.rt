@@ -11,10 +11,9 @@ ghost use Rattle.blanking.specs.Blanking.{copying, fields_of, Copyable, Blankabl
 ghost use Rattle.sim0mq.specs.Table.{placed, row_size};
 ghost use Rattle.sim0mq_buffers.specs.Placing.{put_in, cleared_in};
 
-use reading_front::{Lent, opened};
-use reading_header::Said;
+use reading_front::opened;
 use reading_payload::{FEW, payload};
-use sim0mq::{FIELDS, Judged, ROW};
+use sim0mq::{FIELDS, ROW, Reason, Refusal, refuse};
 use sim0mq_buffers::{clear, put};
 use sim0mq_numbers::wide32;
 
@@ -46,40 +45,40 @@ fn blank_fields(message: &[u8], next: usize, n: usize, kept: &[u32], out: &mut [
         (fields_of message.now next n) }
 {
     let mut at = next;
-    let mut k: usize = 0;
-    while k < n {
+    for k in 0..n {
         let first = wide32(kept[ROW * k + 2]);
         let size = wide32(kept[ROW * k + 3]);
         renew(&message[at..first], out, at, size);
         at = first + size;
-        k += 1;
     }
 }
 
 // Judges the payload of n fields that begins at `next`, and makes the copy once it is accepted and there is room for
 // it: the copy's length, or the refusal. `kept` holds the fields' rows.
-fn copied_by(message: &[u8], next: usize, n: usize, kept: &mut [u32], out: &mut [u8]) -> Judged
+fn copied_by(
+    message: &[u8],
+    next: usize,
+    n: usize,
+    kept: &mut [u32],
+    out: &mut [u8],
+) -> Result<usize, Refusal>
     requires { Copyable message.now next n (length kept.old) }
     ensures answer { judged result ≡ length_of (copying (length out.old) message.now next n) }
     ensures copied { out.new
         ≡ output_after out.old (copying (length out.old) message.now next n) }
 {
-    match payload(message, next, n, 0, kept) {
-        Judged::Refused(r) => Judged::Refused(r),
-        Judged::Accepted(_) => {
-            if out.len() < message.len() {
-                return sim0mq::refuse(14, 0);
-            }
-            put(&message[..next], out, 0);
-            blank_fields(message, next, n, kept, out);
-            Judged::Accepted(message.len())
-        }
+    let _steps = payload(message, next, n, 0, kept)?;
+    if out.len() < message.len() {
+        return refuse(Reason::TooShort, 0);
     }
+    put(&message[..next], out, 0);
+    blank_fields(message, next, n, kept, out);
+    Ok(message.len())
 }
 
 // Judges the payload of n fields that begins at `next`, and makes the copy once it is accepted and there is room for
 // it: the copy's length, or the refusal.
-fn copied(message: &[u8], next: usize, n: usize, out: &mut [u8]) -> Judged
+fn copied(message: &[u8], next: usize, n: usize, out: &mut [u8]) -> Result<usize, Refusal>
     requires { Copyable message.now next n (most_fields * row_size) }
     ensures answer { judged result ≡ length_of (copying (length out.old) message.now next n) }
     ensures copied { out.new
@@ -95,15 +94,11 @@ fn copied(message: &[u8], next: usize, n: usize, out: &mut [u8]) -> Judged
 
 // The length of the message, whose blanked copy is at the front of `out`; or the refusal, reading's or 14 where `out`
 // is shorter than the message.
-pub fn blank(message: &[u8], out: &mut [u8]) -> Judged
+pub fn blank(message: &[u8], out: &mut [u8]) -> Result<usize, Refusal>
     ensures answer { judged result ≡ length_of (blanking (length out.old) message.now) }
     ensures copied { out.new
         ≡ output_after out.old (blanking (length out.old) message.now) }
 {
-    let o = opened(message, Lent::NoTable);
-    let said = o.said;
-    match said {
-        Said::Refused(r) => Judged::Refused(r),
-        Said::Accepted(e) => copied(message, e.next, e.fields, out),
-    }
+    let e = opened(message, None).said?;
+    copied(message, e.next, e.fields, out)
 }

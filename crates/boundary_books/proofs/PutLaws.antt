@@ -1,11 +1,12 @@
 -- A book is put place by place: the numbers put so far, and those from here on put after them, are the book's.
 use Prim.Native.Nat.{ℕ, zero, suc, ◌+◌, ◌-◌, ◌*◌, ◌≤◌, ◌<◌}
-use mathlib.Core.Path.{◌≡◌, refl, ap, sym, ◌∙◌}
+use mathlib.Core.Path.{◌≡◌, refl, ap, ap₂, sym, ◌∙◌}
 use mathlib.Core.List.{List, [], ◌∷◌, ◌++◌}
 use native.Mathlib.Omega.{arith}
 use native.Mathlib.Numerals.{add-one}
-use lib.ListN.{length, get_or, set, take, length-append, length-set}
-use lib.Seq.{take_all, take-suc, length-take-le}
+use lib.ListN.{length, get_or, set, take, drop, length-append, length-set}
+use lib.Seq.{take_all, take-suc, length-take-le, drop-drop}
+use borrow.Rule.Slice.PartMut.{put_mid}
 use lib.IntN.{ℤ}
 use mir.Val.{bool_byte}
 use Rattle.sim0mq.specs.Table.{placed}
@@ -58,6 +59,12 @@ module _ {row old new : List ℕ} {at k : ℕ} (r : Rowing row old new at k) (ro
   pub rowing_end : length row ≤ k → new ≡ placed old at row
   rowing_end h = r.same ∙ ap (placed old at) (take_all k row (omega arith))
 
+-- A row that is copied to the part of its length from `at` on is placed there.
+row_placed : (row part out : List ℕ) (at k : ℕ) → part ≡ row → at + k ≡ at + length row → put_mid at k out part ≡ placed out at row
+unfolding placed
+row_placed row part out at k e n =
+    ap₂ (λ (a b : List ℕ). take at out ++ (a ++ b)) e (drop-drop k at out ∙ ap (λ (m : ℕ). drop m out) n)
+
 -- Eight numbers for each place.
 numbers_eight : (e : Sender) → length (sender_numbers e) ≡ 8
 unfolding sender_numbers
@@ -88,12 +95,14 @@ pub putting_short : (b : List Sender) (old : List ℕ) → length old < 256 → 
 putting_short b old h = put_over old 0 (book_numbers b) (omega (arith, numbers_long b 32 0))
 
 module _ {b : List Sender} {old new : List ℕ} {i : ℕ} (r : Putting b old new i) (room : 256 ≤ length old) where
-  pub putting_turn : (next row : List ℕ) → i < book_places → row ≡ sender_numbers (entry_in b i) → next ≡ placed new (place_size * i) row → Putting b old next (i + 1)
-  putting_turn next row h e f =
+  pub putting_turn : (part row : List ℕ) (k : ℕ) → i < book_places → row ≡ sender_numbers (entry_in b i) → part ≡ row → k ≡ 8
+      → Putting b old (put_mid (place_size * i) k new part) (i + 1)
+  putting_turn part row k h e f eight =
+      let next : List ℕ = put_mid (place_size * i) k new part in
       let one : List ℕ = sender_numbers (entry_in b i) in
       let rest : List ℕ = numbers_from b (suc i) (book_places - suc i) in
-      let g : next ≡ placed new (place_size * i) one = f ∙ ap (placed new (place_size * i)) e in
       let l₁ : length one ≡ 8 = numbers_eight (entry_in b i) in
+      let g : next ≡ placed new (place_size * i) one = row_placed one part new (place_size * i) k (f ∙ e) (omega arith) in
       let l₂ : length rest ≡ 8 * (32 - suc i) = numbers_long b (32 - suc i) (suc i) in
       let p : place_size * suc i ≡ place_size * i + length one = omega arith in
       record {

@@ -1,14 +1,11 @@
--- A book is read place by place: four numbers give the bytes of an id, six an id, eight a place, and the places so far
--- are those of the definition.
+-- A book is read place by place: four numbers give the bytes of an id, and the places so far are those of the
+-- definition.
 use Prim.Native.Nat.{ℕ, suc, ◌+◌, ◌-◌, ◌*◌, ◌≤◌, ◌<◌}
 use mathlib.Core.Path.{◌≡◌, refl, ap, sym, ◌∙◌}
-use mathlib.Core.Bool.{not}
 use mathlib.Core.List.{List, ◌∷◌, ◌++◌, append_assoc, append-nil}
 use native.Mathlib.Omega.{arith}
 use native.Mathlib.Numerals.{add-one}
-use lib.Dec.{eqb}
-use lib.IntN.{ℤ}
-use lib.ListN.{length, get_or, set, take, replicate, length-append, length-set}
+use lib.ListN.{length, set, take, replicate, length-append, length-set}
 use lib.Seq.{take_all, take-suc-set, append_snoc}
 use Rattle.sim0mq.specs.Table.{placed}
 use Rattle.sim0mq.proofs.PlaceLaws.{placed_length, placed_on}
@@ -16,8 +13,6 @@ use Rattle.sim0mq_numbers.specs.Bytes.{big_bytes}
 use Rattle.sim0mq_buffers.specs.Placing.{put_in}
 use Rattle.sim0mq_buffers.proofs.PlaceLaws.{front_stands}
 use Rattle.writing_puts.proofs.PlaceLaws.{big_fits, big_length}
-use Rattle.sim0mq_signed.specs.Signed.{twos}
-use Rattle.senders_book.specs.declared.Id.{Id}
 use Rattle.senders_book.specs.declared.Sender.{Sender}
 use Rattle.senders_book.specs.declared.Book.{Book}
 use Rattle.senders_book.specs.Book.{book_places}
@@ -62,19 +57,6 @@ bytes_put a b c d x y z w e f g h =
     ∙ whole zeros (ABC ++ big_bytes 8 d) (sym l₄)
     ∙ append_assoc AB (big_bytes 8 c) (big_bytes 8 d)
     ∙ append_assoc A (big_bytes 8 b) (big_bytes 8 c ++ big_bytes 8 d)
-
--- An id of its six numbers.
-pub id_read : (l : List ℕ) (at a b c d code long : ℕ) (bytes : List ℕ) → a ≡ get_or l (at + 4) 0 → b ≡ get_or l (at + 5) 0
-    → c ≡ get_or l (at + 6) 0 → d ≡ get_or l (at + 7) 0 → bytes ≡ id_bytes_of a b c d → code ≡ get_or l (at + 2) 0 → long ≡ get_or l (at + 3) 0
-    → ◌≡◌ {A = Id} (record { code = code; length = long; bytes = bytes }) (sender_at l at).id
-unfolding sender_at
-id_read l at a b c d code long bytes ea eb ec ed e f g = rw (e, f, g, ea, eb, ec, ed) refl
-
--- A place of its eight.
-pub place_read : (l : List ℕ) (at h : ℕ) (number : ℤ) (id : Id) → h ≡ get_or l at 0 → number ≡ twos 64 (get_or l (at + 1) 0) → id ≡ (sender_at l at).id
-    → ◌≡◌ {A = Sender} (record { held = not (eqb h 0); number = number; id = id }) (sender_at l at)
-unfolding sender_at
-place_read l at h number id e f g = λ i. record { held = not (eqb (e i) 0); number = f i; id = g i }
 
 -- The places so far: they, and then those from here on, are the book's.
 pub record Reading (l : List ℕ) (places : List Sender) (i : ℕ) : Type 0 where

@@ -21,13 +21,11 @@ pub const BOOK: usize = 256;
 fn number_in(numbers: &[u64], i: usize) -> u64
     ensures { result ≡ get_or numbers.now i 0 }
 {
-    if i < numbers.len() {
-        return numbers[i];
-    }
-    0
+    numbers.get(i).copied().unwrap_or(0)
 }
 
 // The bytes of an id that are in these four numbers.
+#[tactic(auto, using(crate::proofs::ReadLaws::bytes_put))]
 fn id_bytes_of(a: u64, b: u64, c: u64, d: u64) -> [u8; ID_BYTES]
     ensures { result ≡ id_bytes_of a b c d }
 {
@@ -40,6 +38,7 @@ fn id_bytes_of(a: u64, b: u64, c: u64, d: u64) -> [u8; ID_BYTES]
 }
 
 // The id of the six numbers from `at` on.
+#[tactic(auto, unfolding(crate::specs::Books::sender_at))]
 fn id_at(numbers: &[u64], at: usize) -> Id
     requires { at < 256 }
     ensures { result ≡ (sender_at numbers.now at).id }
@@ -58,6 +57,7 @@ fn id_at(numbers: &[u64], at: usize) -> Id
 }
 
 // The place of the eight numbers from `at` on.
+#[tactic(auto, unfolding(crate::specs::Books::sender_at))]
 fn sender_at(numbers: &[u64], at: usize) -> Sender
     requires { at < 256 }
     ensures { result ≡ sender_at numbers.now at }
@@ -74,15 +74,11 @@ fn sender_at(numbers: &[u64], at: usize) -> Sender
 pub fn book_of(numbers: &[u64]) -> Book
     ensures { result ≡ book_of numbers.now }
 {
-    let none = senders::empty();
-    let mut places = none.senders;
-    let mut i: usize = 0;
-    while i < BOOK_PLACES {
-        let e = sender_at(numbers, PLACE * i);
-        places[i] = e;
-        i += 1;
+    let mut book = senders::empty();
+    for (i, place) in book.senders.iter_mut().enumerate() {
+        *place = sender_at(numbers, PLACE * i);
     }
-    Book { senders: places }
+    book
 }
 
 // Eight of an id's bytes, from `at` on, in one number.
@@ -93,6 +89,7 @@ fn word(bytes: [u8; ID_BYTES], at: usize) -> u64
 }
 
 // The numbers of a place.
+#[tactic(auto, using(crate::proofs::PutLaws::numbers_made))]
 fn sender_numbers(e: Sender) -> [u64; PLACE]
     ensures { result ≡ sender_numbers e }
 {
@@ -100,7 +97,7 @@ fn sender_numbers(e: Sender) -> [u64; PLACE]
     let bytes = id.bytes;
     [
         e.held as u64,
-        bits(e.number, 18446744073709551615),
+        bits(e.number, u64::MAX),
         id.code as u64,
         id.length as u64,
         word(bytes, 0),
@@ -110,18 +107,6 @@ fn sender_numbers(e: Sender) -> [u64; PLACE]
     ]
 }
 
-// The eight numbers of a row in `numbers` from `at` on.
-fn put_row(row: [u64; PLACE], numbers: &mut [u64], at: usize)
-    requires { (at + 8 ≤ length numbers.old) × (at < 256) }
-    ensures { numbers.new ≡ placed numbers.old at row }
-{
-    let mut k: usize = 0;
-    while k < PLACE {
-        numbers[at + k] = row[k];
-        k += 1;
-    }
-}
-
 // The numbers of a book at the front of `numbers`, where there is room for them.
 pub fn put_book(book: Book, numbers: &mut [u64])
     ensures { numbers.new ≡ put_in numbers.old 0 (book_numbers book.senders) }
@@ -129,11 +114,8 @@ pub fn put_book(book: Book, numbers: &mut [u64])
     if numbers.len() < BOOK {
         return;
     }
-    let places = book.senders;
-    let mut i: usize = 0;
-    while i < BOOK_PLACES {
-        let e = places[i];
-        put_row(sender_numbers(e), numbers, PLACE * i);
-        i += 1;
+    for (i, e) in book.senders.iter().enumerate() {
+        let at = PLACE * i;
+        numbers[at..at + PLACE].copy_from_slice(&sender_numbers(*e));
     }
 }

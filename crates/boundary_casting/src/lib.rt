@@ -8,8 +8,8 @@ ghost use Rattle.asking_scalars.specs.Scalars.{valued};
 ghost use Rattle.boundary_casting.specs.Casting.{with_mark, with_none, scalar_numbers, value_numbers, from8, from16, from32, scalar_from};
 ghost use Rattle.boundary_giving.specs.Given.{returned, answer_after};
 
-use asking_scalars::answer::Value;
 use boundary_giving::give;
+use sim0mq::Refusal;
 use sim0mq_kinds::{Mark, Scalar, double_of, double_with, float_of, float_with};
 use sim0mq_signed::{i8_of, i16_of, i32_of, i64_of};
 use writing_puts::bits;
@@ -79,19 +79,19 @@ fn scalar_numbers(v: Scalar) -> [u64; 7]
 }
 
 // The numbers of what asking for a value answers.
-fn value_numbers(said: Value) -> [u64; 7]
+fn value_numbers(said: Result<Scalar, Refusal>) -> [u64; 7]
     ensures numbers { result ≡ value_numbers (valued said) }
     ensures small { get_or result 0 0 < 4294967296 }
 {
     match said {
-        Value::Refused(r) => [r.number as u64, r.place as u64, 0, 0, 0, 0, 0],
-        Value::Is(v) => scalar_numbers(v),
+        Err(r) => [r.reason.number() as u64, r.place as u64, 0, 0, 0, 0, 0],
+        Ok(v) => scalar_numbers(v),
     }
 }
 
 // Stores the 7 numbers of what asking for a value answers in `answer`, and returns the first of them; 255, and nothing
 // is stored, where `answer` is too short.
-pub fn give_value(said: Value, answer: &mut [u64]) -> u32
+pub fn give_value(said: Result<Scalar, Refusal>, answer: &mut [u64]) -> u32
     ensures returned { result ≡ returned 7 answer.old (value_numbers (valued said)) }
     ensures answered { answer.new ≡ answer_after 7 answer.old (value_numbers (valued said)) }
 {

@@ -5,48 +5,26 @@
 ghost use Rattle.std.specs.Prelude.{◌≡◌};
 ghost use Rattle.sim0mq.specs.Views.{judged};
 ghost use Rattle.commands_page.specs.Judging.{commanded};
-ghost use Rattle.commands.specs.Names.{number_of, command_as};
+ghost use Rattle.commands.specs.Names.{number_of};
 ghost use Rattle.boundary_crossing.specs.Numbers.{length_numbers};
 ghost use Rattle.boundary_giving.specs.Given.{returned, answer_after};
 
 use boundary_crossing::give_length;
-use commands::{Commanded, Name, command};
-use sim0mq::Judged;
+use commands::{Name, command};
+use sim0mq::Refusal;
 
 // The number of a command's row.
 fn number_of(name: Name) -> usize
     ensures { result ≡ number_of name }
 {
-    match name {
-        Name::StartFederate => 0,
-        Name::StarterRequestStatus => 1,
-        Name::Status => 2,
-        Name::FederateStarted => 3,
-        Name::SimRunControl => 4,
-        Name::AckNak => 5,
-        Name::SetParameter => 6,
-        Name::SimStart => 7,
-        Name::RequestStatus => 8,
-        Name::RequestStatistics => 9,
-        Name::Statistics => 10,
-        Name::StatisticsError => 11,
-        Name::SimReset => 12,
-        Name::KillFederate => 13,
-        Name::KillAll => 14,
-        Name::KillModel => 15,
-        Name::FederateKilled => 16,
-        Name::FederatesKilled => 17,
-    }
+    name as usize
 }
 
-// The number of the command's row, or the refusal.
-fn numbered(said: Commanded) -> Judged
-    ensures { judged result ≡ command_as said }
+// The number of the row of the command that the message is, or the refusal.
+fn numbered(message: &[u8]) -> Result<usize, Refusal>
+    ensures { judged result ≡ commanded message.now }
 {
-    match said {
-        Commanded::Refused(r) => Judged::Refused(r),
-        Commanded::Is(name) => Judged::Accepted(number_of(name)),
-    }
+    Ok(number_of(command(message)?))
 }
 
 // Which command the message is: answers the number of its row, in the 3 numbers of `length_numbers`.
@@ -55,5 +33,5 @@ pub fn sim0mq_command(message: &[u8], answer: &mut [u64]) -> u32
     ensures answered { answer.new
         ≡ answer_after 3 answer.old (length_numbers (commanded message.now)) }
 {
-    give_length(numbered(command(message)), answer)
+    give_length(numbered(message), answer)
 }

@@ -6,9 +6,8 @@ use Rattle.sim0mq.specs.Answer as S
 use Rattle.sim0mq.specs.Answer.{fine, refused}
 use Rattle.sim0mq.specs.Field.{Field}
 use Rattle.reading_header.specs.declared.Frame.{Frame}
-use Rattle.reading.specs.declared.Reading.{Reading}
-use Rattle.reading.specs.declared.Reading.TheVariants.{Accepted as Reading-as-Accepted, Refused as Reading-as-Refused}
-use Rattle.reading.specs.declared.Answer.{Answer}
+use Rattle.reading.specs.declared.Found.{Found}
+use Rattle.reading.specs.Answers.{Answered}
 
 -- A frame's place and type code.
 abbrev pub frame_numbers : Frame → List ℕ
@@ -16,11 +15,11 @@ frame_numbers f = f.place ∷ f.code ∷ []
 
 -- Reading, 21 numbers: number, place, length, fields, steps, then the place and the type code of each of the eight
 -- frames.
-abbrev pub said_numbers : Reading → List ℕ → List ℕ
-said_numbers (Reading-as-Accepted f) frames = 0 ∷ 0 ∷ f.length ∷ f.fields ∷ f.steps ∷ frames
-said_numbers (Reading-as-Refused r) frames = r.number ∷ r.place ∷ replicate 19 0
+abbrev pub said_numbers : S.Answer Found → List ℕ → List ℕ
+said_numbers (fine f) frames = 0 ∷ 0 ∷ f.length ∷ f.fields ∷ f.steps ∷ frames
+said_numbers (refused k p) frames = k ∷ p ∷ replicate 19 0
 
-abbrev pub read_numbers : Answer → List ℕ
+abbrev pub read_numbers : Answered → List ℕ
 read_numbers a = said_numbers a.said (flat_map frame_numbers a.frames)
 
 -- A length, 3 numbers: number, place, length.

@@ -29,28 +29,10 @@ pub answered_short : (n : ℕ) (answer told : List ℕ) → length answer < n �
 unfolding answer_after
 answered_short n answer told h = given_short n answer (stored answer told) answer h
 
--- With room, the first number is returned, where the call's numbers are those that the definition tells; and they are
--- stored.
-pub returned_room : (n : ℕ) (answer numbers told : List ℕ) (r : ℕ) → n ≤ length answer → numbers ≡ told → r ≡ get_or numbers 0 0 → r ≡ returned n answer told
-unfolding returned
-returned_room n answer numbers told r h e f = f ∙ (ap (λ (l : List ℕ). get_or l 0 0) e ∙ given_room n answer (get_or told 0 0) 255 h)
-
-pub answered_room : (n : ℕ) (answer answer₁ told : List ℕ) → n ≤ length answer → answer₁ ≡ stored answer told → answer₁ ≡ answer_after n answer told
-unfolding answer_after
-answered_room n answer answer₁ told h e = e ∙ given_room n answer (stored answer told) answer h
-
 -- What is returned and the lent answer are as the definition tells, where its numbers are those that were stored.
 pub both_told : (n : ℕ) (answer answer₁ numbers told : List ℕ) (r : ℕ) → numbers ≡ told → (r ≡ returned n answer numbers) × (answer₁ ≡ answer_after n answer numbers)
     → (r ≡ returned n answer told) × (answer₁ ≡ answer_after n answer told)
 both_told n answer answer₁ numbers told r e h = (h.0 ∙ ap (returned n answer) e, h.1 ∙ ap (answer_after n answer) e)
-
--- So too where they are as many as the call answers.
-pub both_all : (n : ℕ) (answer answer₁ numbers told : List ℕ) (r : ℕ) → length numbers ≡ n → numbers ≡ told
-    → (r ≡ returned (length numbers) answer numbers) × (answer₁ ≡ answer_after (length numbers) answer numbers)
-    → (r ≡ returned n answer told) × (answer₁ ≡ answer_after n answer told)
-both_all n answer answer₁ numbers told r l e h =
-    both_told n answer answer₁ numbers told r e
-    (h.0 ∙ ap (λ (m : ℕ). returned m answer numbers) l, h.1 ∙ ap (λ (m : ℕ). answer_after m answer numbers) l)
 
 -- One of two small numbers is small; so is the returned number where the first of the numbers is.
 small : (b : Bool) (x : ℕ) → x < 4294967296 → cond b x 255 < 4294967296

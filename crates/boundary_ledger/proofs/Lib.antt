@@ -1,2 +1,1 @@
 pub mod DeckLaws
-pub mod CallLaws

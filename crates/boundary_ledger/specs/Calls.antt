@@ -3,13 +3,11 @@
 use Rattle.std.specs.Prelude.{ℕ, ◌&&◌, List, ◌∷◌, leb, length, take, replicate}
 use Rattle.sim0mq.specs.Answer.{Answer, fine, refused, ◌>>◌, guard}
 use Rattle.sim0mq.specs.Table.{stored}
-use Rattle.sim0mq.specs.declared.Judged.{Judged}
-use Rattle.sim0mq.specs.declared.Judged.TheVariants.{Accepted, Refused}
 use Rattle.sim0mq_buffers.specs.Placing.{put_in}
 use Rattle.ledger_decks.specs.Decks.{deck_count}
 use Rattle.ledger_decks.specs.Mustering.{Order, mustering, decks_mustered, book_mustered}
 use Rattle.ledger_decks.specs.declared.Ledger.{Ledger}
-use Rattle.ledger_recordings.specs.declared.Reckoned.{Reckoned}
+use Rattle.ledger_recordings.specs.Reckoning.{Comes}
 use Rattle.boundary_books.specs.Books.{book_of, book_numbers}
 use Rattle.boundary_senders.specs.Calls.{book_size}
 
@@ -39,9 +37,9 @@ book_in l (fine o) = put_in l 0 (book_numbers (book_mustered (book_of l).senders
 book_in l (refused k p) = l
 
 -- What a recording comes to, 20 numbers: number, place, messages applied, messages refused, and the heads on each deck.
-abbrev pub said_numbers : Judged → ℕ → List ℕ → List ℕ
-said_numbers (Accepted n) passed heads = 0 ∷ 0 ∷ n ∷ passed ∷ heads
-said_numbers (Refused r) passed heads = r.number ∷ r.place ∷ replicate 18 0
+abbrev pub said_numbers : Answer ℕ → ℕ → List ℕ → List ℕ
+said_numbers (fine n) passed heads = 0 ∷ 0 ∷ n ∷ passed ∷ heads
+said_numbers (refused k p) passed heads = k ∷ p ∷ replicate 18 0
 
-abbrev pub reckoned_numbers : Reckoned → List ℕ
+abbrev pub reckoned_numbers : Comes → List ℕ
 reckoned_numbers r = said_numbers r.said r.refused r.ledger.heads

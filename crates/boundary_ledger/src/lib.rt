@@ -7,7 +7,7 @@ ghost use Rattle.std.specs.Prelude.{◌≡◌, ◌≤◌, ◌<◌, length, get_o
 ghost use Rattle.sim0mq.specs.Table.{stored};
 ghost use Rattle.sim0mq.specs.Views.{judged};
 ghost use Rattle.ledger_decks.specs.Decks.{deck_count};
-ghost use Rattle.ledger_recordings.specs.Reckoning.{reckoning, reckoned_as};
+ghost use Rattle.ledger_recordings.specs.Reckoning.{reckoning, comes_as, reckoned_as};
 ghost use Rattle.boundary_crossing.specs.Numbers.{length_numbers};
 ghost use Rattle.boundary_giving.specs.Given.{given, returned, answer_after};
 ghost use Rattle.boundary_ledger.specs.Calls.{ledger_of, mustering_in, place_in, decks_in, book_in, said_numbers, reckoned_numbers};
@@ -18,7 +18,7 @@ use boundary_giving::{TOO_SHORT, give};
 use ledger::muster;
 use ledger_decks::{DECKS, Ledger};
 use ledger_recordings::{Reckoned, reckon};
-use sim0mq::{Judged, refuse};
+use sim0mq::{Reason, Refusal, refuse};
 
 // How many numbers mustering answers.
 const MUSTER: usize = 3;
@@ -28,69 +28,52 @@ fn ledger_of(decks: &[u16]) -> Ledger
     requires { deck_count ≤ length decks.now }
     ensures { result ≡ ledger_of decks.now }
 {
-    Ledger {
-        heads: [
-            decks[0], decks[1], decks[2], decks[3], decks[4], decks[5], decks[6], decks[7],
-            decks[8], decks[9], decks[10], decks[11], decks[12], decks[13], decks[14], decks[15],
-        ],
-    }
+    let mut heads = [0u16; DECKS];
+    heads.copy_from_slice(&decks[..DECKS]);
+    Ledger { heads }
 }
 
 // The heads at the front of `decks`.
+#[tactic(auto, unfolding(sim0mq::specs::Table::stored))]
 fn put_decks(heads: [u16; DECKS], decks: &mut [u16])
     requires { deck_count ≤ length decks.old }
     ensures { decks.new ≡ stored decks.old heads }
 {
-    let mut k: usize = 0;
-    while k < DECKS {
-        decks[k] = heads[k];
-        k += 1;
-    }
+    decks[..DECKS].copy_from_slice(&heads);
 }
 
 // Musters the message by the ledger and the book of these numbers: the sender's place in the book, or the refusal.
 #[tactic(auto, unfolding(crate::specs::Calls::mustering_in, crate::specs::Calls::decks_in, crate::specs::Calls::book_in))]
-fn muster_in(decks: &mut [u16], book: &mut [u64], message: &[u8]) -> Judged
+fn muster_in(decks: &mut [u16], book: &mut [u64], message: &[u8]) -> Result<usize, Refusal>
     ensures answer { judged result ≡ place_in (mustering_in decks.old book.old message.now) }
     ensures decks { decks.new
         ≡ decks_in decks.old (mustering_in decks.old book.old message.now) }
     ensures book { book.new
         ≡ book_in book.old (mustering_in decks.old book.old message.now) }
 {
-    if decks.len() < DECKS {
-        return refuse(14, 0);
-    }
-    if book.len() < BOOK {
-        return refuse(14, 0);
+    if decks.len() < DECKS || book.len() < BOOK {
+        return refuse(Reason::TooShort, 0);
     }
     let m = muster(ledger_of(decks), book_of(book), message);
-    let said = m.said;
-    let ledger = m.ledger;
-    let after = m.book;
-    match said {
-        Judged::Refused(r) => Judged::Refused(r),
-        Judged::Accepted(i) => {
-            let heads = ledger.heads;
-            put_decks(heads, decks);
-            put_book(after, book);
-            Judged::Accepted(i)
-        }
-    }
+    let place = m.said?;
+    put_decks(m.ledger.heads, decks);
+    put_book(m.book, book);
+    Ok(place)
 }
 
 // The numbers of what a recording comes to.
-fn reckoned_numbers(said: Judged, passed: usize, heads: [u16; DECKS]) -> [u64; 20]
-    ensures numbers { result ≡ said_numbers said passed heads }
+fn reckoned_numbers(said: Result<usize, Refusal>, passed: usize, heads: [u16; DECKS]) -> [u64; 20]
+    ensures numbers { result ≡ said_numbers (judged said) passed heads }
     ensures small { get_or result 0 0 < 4294967296 }
 {
     match said {
-        Judged::Refused(r) => {
+        Err(r) => {
             let mut numbers = [0u64; 20];
-            numbers[0] = r.number as u64;
+            numbers[0] = r.reason.number() as u64;
             numbers[1] = r.place as u64;
             numbers
         }
-        Judged::Accepted(n) => [
+        Ok(n) => [
             0,
             0,
             n as u64,
@@ -118,13 +101,10 @@ fn reckoned_numbers(said: Judged, passed: usize, heads: [u16; DECKS]) -> [u64; 2
 // Stores the 20 numbers of what a recording comes to in `answer`, and returns the first of them; 255, and nothing is
 // stored, where `answer` is too short.
 fn give_reckoned(r: Reckoned, answer: &mut [u64]) -> u32
-    ensures returned { result ≡ returned 20 answer.old (reckoned_numbers r) }
-    ensures answered { answer.new ≡ answer_after 20 answer.old (reckoned_numbers r) }
+    ensures returned { result ≡ returned 20 answer.old (reckoned_numbers (comes_as r)) }
+    ensures answered { answer.new ≡ answer_after 20 answer.old (reckoned_numbers (comes_as r)) }
 {
-    let said = r.said;
-    let ledger = r.ledger;
-    let heads = ledger.heads;
-    let numbers = reckoned_numbers(said, r.refused, heads);
+    let numbers = reckoned_numbers(r.said, r.refused, r.ledger.heads);
     give(&numbers, answer) as u32
 }
 

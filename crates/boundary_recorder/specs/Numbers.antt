@@ -1,12 +1,10 @@
 -- The numbers in which the recorder's answers and its state cross to C and Rust, and back; what each of its calls
 -- answers in them, and the buffer that it leaves.
 use Rattle.std.specs.Prelude.{ℕ, cond, not, List, [], ◌∷◌, ◌++◌, eqb, length}
-use Rattle.sim0mq.specs.Views.{judged}
 use Rattle.writing_opening.specs.Opening.{buffer_after}
 use Rattle.recordings_format.specs.Edition.{newest}
-use Rattle.recordings_writing.specs.Recorder.{adding, closing, after_adding, after_closing}
+use Rattle.recordings_writing.specs.Recorder.{Told, adding, closing, after_adding, after_closing}
 use Rattle.recordings_writing.specs.declared.Recorder.{Recorder}
-use Rattle.recordings_writing.specs.declared.Recorded.{Recorded}
 use Rattle.boundary_crossing.specs.Numbers.{length_numbers}
 
 -- The recorder's state, 3 numbers: written, messages, and 1 where it is closed; and the state of such numbers, which is
@@ -18,8 +16,8 @@ abbrev pub recorder_of : ℕ → ℕ → ℕ → Recorder
 recorder_of written messages closed = record { written = written; messages = messages; closed = not (eqb closed 0) }
 
 -- A call of the recorder, 6 numbers: number, place, bytes written so far, and the state that is handed back.
-abbrev pub recorded_numbers : Recorded → List ℕ
-recorded_numbers r = length_numbers (judged r.said) ++ state_numbers r.recorder
+abbrev pub recorded_numbers : Told → List ℕ
+recorded_numbers t = length_numbers t.said ++ state_numbers t.recorder
 
 -- Adding a message to this state, in a buffer of so many bytes; and the buffer after it.
 unfoldable pub add_numbers : Recorder → ℕ → List ℕ → List ℕ

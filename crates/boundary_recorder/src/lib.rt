@@ -3,15 +3,13 @@
 // refusal's number where it is refused, and 255 where the lent answer is too short; then nothing is written.
 #![tactic(auto)]
 
-ghost use Rattle.std.specs.Prelude.{◌≡◌, ◌++◌, ◌<◌, length, get_or};
-ghost use Rattle.sim0mq.specs.Views.{judged};
-ghost use Rattle.boundary_crossing.specs.Numbers.{length_numbers};
+ghost use Rattle.std.specs.Prelude.{◌≡◌, ◌<◌, length, get_or};
+ghost use Rattle.recordings_writing.specs.Recorder.{told_as};
 ghost use Rattle.boundary_giving.specs.Given.{given, returned, answer_after};
-ghost use Rattle.boundary_recorder.specs.Numbers.{state_numbers, recorder_of, recorded_numbers, add_numbers, added_in, close_numbers, closed_in};
+ghost use Rattle.boundary_recorder.specs.Numbers.{recorder_of, recorded_numbers, add_numbers, added_in, close_numbers, closed_in};
 
 use boundary_giving::{TOO_SHORT, give};
 use recordings_writing::{Recorded, Recorder};
-use sim0mq::Judged;
 
 // How many numbers each call answers.
 const ADD: usize = 6;
@@ -30,40 +28,42 @@ fn recorder_of(written: u64, messages: u64, closed: u8) -> Recorder
 }
 
 // The numbers of what a call of the recorder answers, and of the state that it hands back.
-fn recorded_numbers(said: Judged, w: Recorder) -> [u64; 6]
-    ensures numbers { result ≡ length_numbers (judged said) ++ state_numbers w }
+#[tactic(auto, using(boundary_casting::proofs::ScalarLaws::truth_number))]
+fn recorded_numbers(r: Recorded) -> [u64; 6]
+    ensures numbers { result ≡ recorded_numbers (told_as r) }
     ensures small { get_or result 0 0 < 4294967296 }
 {
-    let written = w.written as u64;
-    let messages = w.messages as u64;
-    let closed = w.closed as u64;
-    match said {
-        Judged::Refused(r) => [
-            r.number as u64,
-            r.place as u64,
+    let written = r.recorder.written as u64;
+    let messages = r.recorder.messages as u64;
+    let closed = r.recorder.closed as u64;
+    match r.said {
+        Err(f) => [
+            f.reason.number() as u64,
+            f.place as u64,
             0,
             written,
             messages,
             closed,
         ],
-        Judged::Accepted(n) => [0, 0, n as u64, written, messages, closed],
+        Ok(n) => [0, 0, n as u64, written, messages, closed],
     }
 }
 
 // Stores the 6 numbers of what a call of the recorder answers in `answer`, and returns the first of them; 255, and
 // nothing is stored, where `answer` is too short.
+#[tactic(auto, using(boundary_giving::proofs::GivenLaws::returned_small))]
 fn give_recorded(r: Recorded, answer: &mut [u64]) -> u32
-    ensures returned { result ≡ returned 6 answer.old (recorded_numbers r) }
-    ensures answered { answer.new ≡ answer_after 6 answer.old (recorded_numbers r) }
+    ensures returned { result ≡ returned 6 answer.old (recorded_numbers (told_as r)) }
+    ensures answered { answer.new
+        ≡ answer_after 6 answer.old (recorded_numbers (told_as r)) }
 {
-    let said = r.said;
-    let recorder = r.recorder;
-    let numbers = recorded_numbers(said, recorder);
+    let numbers = recorded_numbers(r);
     give(&numbers, answer) as u32
 }
 
 // Adds a message to the recording of the state of these numbers, in `out`; answers the bytes written so far and the
 // state, in the 6 numbers of `recorded_numbers`.
+#[tactic(auto, unfolding(boundary_giving::specs::Given::given, boundary_giving::specs::Given::returned, boundary_giving::specs::Given::answer_after, crate::specs::Numbers::add_numbers, crate::specs::Numbers::added_in))]
 pub fn sim0mq_recording_add(
     written: u64,
     messages: u64,
@@ -90,6 +90,7 @@ pub fn sim0mq_recording_add(
 }
 
 // Closes the recording of the state of these numbers, in `out`; answers as adding does.
+#[tactic(auto, unfolding(boundary_giving::specs::Given::given, boundary_giving::specs::Given::returned, boundary_giving::specs::Given::answer_after, crate::specs::Numbers::close_numbers, crate::specs::Numbers::closed_in))]
 pub fn sim0mq_recording_close(
     written: u64,
     messages: u64,

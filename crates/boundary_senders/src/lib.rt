@@ -13,7 +13,7 @@ use boundary_books::{BOOK, book_of, put_book};
 use boundary_crossing::give_length;
 use boundary_giving::TOO_SHORT;
 use senders::{close, take};
-use sim0mq::{Judged, refuse};
+use sim0mq::{Reason, Refusal, refuse};
 
 // How many numbers each call answers.
 const TAKE: usize = 3;
@@ -22,43 +22,35 @@ const CLOSE: usize = 3;
 
 // Takes the message into the book of these numbers: the sender's place, or the refusal.
 #[tactic(auto, unfolding(crate::specs::Calls::taking_in, crate::specs::Calls::taken_in))]
-fn take_in(book: &mut [u64], message: &[u8]) -> Judged
+fn take_in(book: &mut [u64], message: &[u8]) -> Result<usize, Refusal>
     ensures answer { judged result ≡ place_in (taking_in book.old message.now) }
     ensures left { book.new
         ≡ taken_in book.old (taking_in book.old message.now) }
 {
     if book.len() < BOOK {
-        return refuse(14, 0);
+        return refuse(Reason::TooShort, 0);
     }
-    let t = take(book_of(book), message);
-    let said = t.said;
-    let after = t.book;
-    match said {
-        Judged::Refused(r) => Judged::Refused(r),
-        Judged::Accepted(i) => {
-            put_book(after, book);
-            Judged::Accepted(i)
-        }
-    }
+    let taken = take(book_of(book), message);
+    let place = taken.said?;
+    put_book(taken.book, book);
+    Ok(place)
 }
 
 // Closes the sender in the book of these numbers: 1 where it was held and 0 where not, or the refusal.
 #[tactic(auto, unfolding(crate::specs::Calls::closing_in, crate::specs::Calls::closed_in))]
-fn close_in(book: &mut [u64], code: usize, id: &[u8]) -> Judged
+fn close_in(book: &mut [u64], code: usize, id: &[u8]) -> Result<usize, Refusal>
     ensures answer { judged result ≡ held_in (closing_in book.old code id.now) }
     ensures left { book.new
         ≡ closed_in book.old (closing_in book.old code id.now) }
 {
     if book.len() < BOOK {
-        return refuse(14, 0);
+        return refuse(Reason::TooShort, 0);
     }
-    let c = close(book_of(book), code, id);
-    let after = c.book;
-    if c.held {
-        put_book(after, book);
-        return Judged::Accepted(1);
+    let closed = close(book_of(book), code, id);
+    if closed.held {
+        put_book(closed.book, book);
     }
-    Judged::Accepted(0)
+    Ok(closed.held as usize)
 }
 
 // Takes the message into the book; answers the sender's place, in the 3 numbers of `length_numbers`.

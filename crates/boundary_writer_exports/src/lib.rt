@@ -16,12 +16,8 @@ use boundary_writer_crossing::{count_type, give_wrote, writer_of};
 use sim0mq_kinds::Mark;
 use writing::Writer;
 
-// How many numbers the calls answer that write more than the answer.
-const OPEN: usize = 7;
-
-const ADD: usize = 7;
-
-const ADD_SCALAR: usize = 7;
+// How many numbers a call answers.
+const NUMBERS: usize = 7;
 
 // Opens a message in `out`, with the type `kind` of its count where `stated` is not 0; answers the bytes written so far
 // and the writer's state, in the 7 numbers of `wrote_numbers`.
@@ -45,7 +41,7 @@ pub fn sim0mq_open(
         ≡ answer_after 7 answer.old
         (open_numbers (asks_for ids.now number status fields (count_type stated kind)) (length out.old)) }
 {
-    if answer.len() < OPEN {
+    if answer.len() < NUMBERS {
         return TOO_SHORT;
     }
     let w = Writer::open(
@@ -79,7 +75,7 @@ pub fn sim0mq_add(
         ≡ answer_after 7 answer.old
         (add_numbers (writer_of written declared added closed) (length out.old) (encoded field.now)) }
 {
-    if answer.len() < ADD {
+    if answer.len() < NUMBERS {
         return TOO_SHORT;
     }
     let w = writer_of(written, declared, added, closed).add(field, out);
@@ -110,7 +106,7 @@ pub fn sim0mq_add_scalar(
         ≡ answer_after 7 answer.old
         (add_numbers (writer_of written declared added closed) (length out.old) (scalar (scalar_from kind bits (mark_from unit currency display)))) }
 {
-    if answer.len() < ADD_SCALAR {
+    if answer.len() < NUMBERS {
         return TOO_SHORT;
     }
     let mark = Mark {

@@ -8,12 +8,13 @@ use native.Mathlib.Numerals.{add-one}
 use native.Mathlib.Nat.{not-suc-le-zero, le_of_suc-le-suc}
 use lib.ListN.{length, get_or, drop, drop_of_length-le}
 use lib.Seq.{drop-cons}
-use Rattle.sim0mq.specs.Answer.{fine, refused}
+use borrow.Author.Tests.{eq-eqb, ne_eqb}
+use Rattle.sim0mq.specs.Answer.{fine, refused, byte}
 use Rattle.sim0mq.specs.Field.{Field}
 use Rattle.sim0mq.specs.Table.{row as row_of, row_size, rows, stored}
-use Rattle.commands_page.specs.Page.{Row}
-use Rattle.commands_page.specs.Judging.{passes, want_in, each, no_field}
-use Rattle.commands.specs.Tables.{want_of, Cell, Held, done, field_of}
+use Rattle.commands_page.specs.Page.{Want, Row}
+use Rattle.commands_page.specs.Judging.{code_taken, text_taken, passes, want_in, each, no_field}
+use Rattle.commands.specs.Tables.{Cell, Held}
 
 module _ (s : List ℕ) (row : Row) (k : ℕ) (fs : List Field) (i : ℕ) where
   abbrev pub test : Bool
@@ -74,29 +75,34 @@ held fs t n e =
     }
 
 -- a field's test, by what the table has of it
-pub right_cell : (s t : List ℕ) (row : Row) (k i at w c place first size : ℕ) (b : Bool)
-    → b ≡ passes k s (want_of w) (field_of c place first size) → want_of w ≡ want_in row i
-    → c ≡ get_or t at 0 → place ≡ get_or t (at + 1) 0 → first ≡ get_or t (at + 2) 0 → size ≡ get_or t (at + 3) 0
-    → (f : Field) → Cell t at f → b ≡ passes k s (want_in row i) f
-unfolding passes
-right_cell s t row k i at w c place first size b e q e0 e1 e2 e3 f h =
-    let a0 = e0 ∙ h.code in
-    let a1 = e1 ∙ h.place in
-    let a2 = e2 ∙ h.first in
-    let a3 = e3 ∙ h.size in
-    e ∙ (λ j. passes k s (q j) (field_of (a0 j) (a1 j) (a2 j) (a3 j)))
+module _ (s t : List ℕ) (w : Want) (k at : ℕ) (f : Field) (h : Cell t at f) (b : Bool) where
+  pub right_code : (c u place : ℕ) → k ≡ 22 → c ≡ get_or t at 0 → place ≡ get_or t (at + 1) 0 → u ≡ byte s (place + 1)
+      → b ≡ code_taken w.codes c u → b ≡ passes k s w f
+  unfolding passes
+  right_code c u place e p q r z =
+      let code = p ∙ h.code in
+      let mark = r ∙ ap (λ (x : ℕ). byte s (x + 1)) (q ∙ h.place) in
+      z ∙ (λ j. code_taken w.codes (code j) (mark j)) ∙ sym (simp (eq-eqb k 22 e))
+
+  pub right_text : (first size : ℕ) → (k ≡ 22 → ⊥) → first ≡ get_or t (at + 2) 0 → size ≡ get_or t (at + 3) 0
+      → b ≡ text_taken w.rule s first size → b ≡ passes k s w f
+  unfolding passes
+  right_text first size d p q z =
+      let from = p ∙ h.first in
+      let long = q ∙ h.size in
+      z ∙ (λ j. text_taken w.rule s (from j) (long j)) ∙ sym (simp (ne_eqb k 22 d))
 
 -- the loop over the fields
 module _ (s t : List ℕ) (row : Row) (k n i : ℕ) (fs : List Field) (h : Held t n fs) (so : each s row k 0 fs ≡ each s row k i (drop i fs)) where
-  pub each_refuses : (place : ℕ) → i < n → place ≡ get_or t (row_size * i + 1) 0 → test s row k fs i ≡ false → refused k place ≡ done (each s row k 0 fs)
+  pub each_refuses : (place : ℕ) → i < n → place ≡ get_or t (row_size * i + 1) 0 → test s row k fs i ≡ false → refused k place ≡ each s row k 0 fs
   each_refuses place l p e =
       let many = h.many in
       let stop = each_stop s row k fs i (omega arith) e in
       let at = p ∙ (h.cells i l).place in
-      sym (ap done (so ∙ stop) ∙ ap (λ (x : ℕ). refused k x) (sym at))
+      sym (so ∙ stop ∙ ap (λ (x : ℕ). refused k x) (sym at))
 
   pub each_goes : i < n → test s row k fs i ≡ true → each s row k 0 fs ≡ each s row k (i + 1) (drop (i + 1) fs)
   each_goes l e = let many = h.many in so ∙ each_turn s row k fs i (omega arith) e
 
-  pub each_ends : n ≤ i → fine 0 ≡ done (each s row k 0 fs)
-  each_ends l = let many = h.many in sym (ap done (so ∙ each_end s row k fs i (omega arith)))
+  pub each_ends : n ≤ i → fine tt ≡ each s row k 0 fs
+  each_ends l = let many = h.many in sym (so ∙ each_end s row k fs i (omega arith))

@@ -4,3 +4,4 @@ pub mod EachLaws
 pub mod NumberLaws
 pub mod ReadLaws
 pub mod NameLaws
+pub mod ReasonLaws

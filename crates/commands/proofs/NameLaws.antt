@@ -35,6 +35,9 @@ below KillModel = omega arith
 below FederateKilled = omega arith
 below FederatesKilled = omega arith
 
+pub in_page : (c : Name) → number_of c < 18
+in_page c = let b = below c in let long = page_long in omega arith
+
 its_id : (c : Name) → (row_at (number_of c)).id ≡ id_of c
 unfolding page row_at
 its_id StartFederate = refl

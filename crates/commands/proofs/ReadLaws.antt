@@ -1,6 +1,6 @@
 -- What reading leaves for the judge: the frames it looks at, and a table that holds the fields. A table that is too
 -- short for the rows is refused by 14, and with any other the judge answers as with none.
-use Prim.Native.Nat.{ℕ, suc, ◌+◌, ◌*◌, ◌≤◌, ◌<◌}
+use Prim.Native.Nat.{ℕ, suc, ◌+◌, ◌*◌, ◌≤◌}
 use mathlib.Core.Path.{◌≡◌, refl, ap, sym, ◌∙◌, subst}
 use mathlib.Core.Bool.{Bool, true, false}
 use mathlib.Core.List.{List, map, flat_map, ◌++◌, [], ◌∷◌}
@@ -25,12 +25,12 @@ use Rattle.reading_header.specs.declared.Frame.{Frame}
 use Rattle.reading_header.specs.Frames.{framed}
 use Rattle.reading.specs.declared.Found.{Found}
 use Rattle.reading.specs.declared.Answer.{Answer}
-use Rattle.reading.specs.declared.Reading.TheVariants.{Accepted, Refused}
-use Rattle.reading.specs.Answers.{answered, found_in}
-use Rattle.reading.proofs.SaidLaws.{said_fine, said_refused}
+use Rattle.std.specs.Prelude.{Ok, Err}
+use Rattle.sim0mq.specs.declared.Refusal.{Refusal}
+use Rattle.sim0mq.specs.Views.{number_of}
+use Rattle.reading.specs.Answers.{Answered, answer_as, answered, found_in}
+use Rattle.reading.proofs.SaidLaws.{found_at, fault_at}
 use Rattle.commands_page.specs.Judging.{no_frame, looks, looks_at, Looks, command_of, commanded}
-use Rattle.commands_page.proofs.PageLaws.{page_long}
-use Rattle.commands_page.proofs.Places.{accepts_by_places}
 use Rattle.commands_page.proofs.PartLaws.{cut_within}
 use Rattle.commands.specs.Tables.{Held, commanded_by}
 use Rattle.commands.proofs.EachLaws.{held}
@@ -162,21 +162,19 @@ abbrev none : Frame
 none = record { place = 0; code = 0 }
 
 module _
-    (s t u : List ℕ) (a : Answer) (e : a ≡ answered (reading (M.table (length t)) s))
+    (s t u : List ℕ) (a : Answer) (e : answer_as a ≡ answered (reading (M.table (length t)) s))
     (v : u ≡ table_after t (reading (M.table (length t)) s))
   where
     abbrev read : S.Answer M.Reading
     read = reading (M.table (length t)) s
 
-    pub command-refused : (k p : ℕ) → a.said ≡ Refused (record { number = k; place = p }) → refused k p ≡ commanded_by (length t) s
+    pub command-refused : (r : Refusal) → a.said ≡ Err r → refused (number_of r.reason) r.place ≡ commanded_by (length t) s
     unfolding commanded_by
-    command-refused k p g =
-        let q : read ≡ refused k p = said_refused read (record { number = k; place = p }) (sym (ap (λ (x : Answer). x.said) e) ∙ g) in
-        sym (simp q)
+    command-refused r g = let q : read ≡ refused (number_of r.reason) r.place = fault_at read a e r g in sym (simp q)
 
-    module _ (f : Found) (g : a.said ≡ Accepted f) where
+    module _ (f : Found) (g : a.said ≡ Ok f) where
       got : (m : M.Reading) × (read ≡ fine m) × (found_in m ≡ f)
-      got = said_fine read f (sym (ap (λ (x : Answer). x.said) e) ∙ g)
+      got = found_at read a e f g
 
       many : length got.0.fields ≡ f.fields
       many = ap (λ (x : Found). x.fields) got.2
@@ -195,7 +193,7 @@ module _
           omega (arith, length-append (rows m.fields) (drop (length (rows m.fields)) t))
 
       frames-are : a.frames ≡ map framed got.0.frames
-      frames-are = ap (λ (x : Answer). x.frames) (e ∙ ap answered got.1)
+      frames-are = ap (λ (x : Answered). x.frames) (e ∙ ap answered got.1)
 
       pub command-frame : (i : ℕ) → (get_or a.frames (suc i) none).place ≤ limit
       command-frame i =
@@ -219,10 +217,3 @@ module _
           ∙ ap (λ (l : Looks). command_of s l got.0.fields)
           (judged_of s got.0 (length t) got.1 a.frames frames-are _ _ _ _ none refl refl refl refl refl)
           ∙ sym (commanded_is s got.0 (length t) got.1)
-
--- a command that is found has a row of the page
-pub command_told : (s : List ℕ) (r k : ℕ) → fine k ≡ commanded_by r s → k < 18
-command_told s r k q =
-    let listed = ((accepts_by_places s k).0 (sym (by_found r s k q))).listed in
-    let long = page_long in
-    omega arith

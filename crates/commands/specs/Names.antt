@@ -1,15 +1,15 @@
 -- The commands by name (000, chapter 4): the manual's type id of each, and its row on the page.
-use Rattle.std.specs.Prelude.{ℕ, ◌<◌, ◌≡◌, List, ◌↔◌, length}
-use Rattle.sim0mq.specs.Answer.{Answer, fine, refused}
+use Rattle.std.specs.Prelude.{ℕ, ◌<◌, ◌≡◌, Bool, List, ◌↔◌, length, eqb, Result}
+use Rattle.sim0mq.specs.Answer.{Answer, fine}
 use Rattle.sim0mq.specs.Allowed.{Allowed}
 use Rattle.sim0mq.specs.Message.{limit}
+use Rattle.sim0mq.specs.Views.{said_as}
+use Rattle.sim0mq.specs.declared.Refusal.{Refusal}
 use Rattle.commands_page.specs.Page.{FM, FS, MC, page, row_at}
 use Rattle.commands_page.specs.Judging.{commanded}
 use Rattle.commands_page.specs.Parts.{IsCommandOf}
 use Rattle.commands.specs.declared.Name.{Name}
 use Rattle.commands.specs.declared.Name.TheVariants.{StartFederate, StarterRequestStatus, Status, FederateStarted, SimRunControl, AckNak, SetParameter, SimStart, RequestStatus, RequestStatistics, Statistics, StatisticsError, SimReset, KillFederate, KillAll, KillModel, FederateKilled, FederatesKilled}
-use Rattle.commands.specs.declared.Commanded.{Commanded}
-use Rattle.commands.specs.declared.Commanded.TheVariants.{Is, Refused}
 
 -- The type id of each (the digits 1 to 9 are 49 to 57).
 abbrev pub id_of : Name → List ℕ
@@ -54,9 +54,12 @@ number_of FederateKilled = 16
 number_of FederatesKilled = 17
 
 -- What an answer of the code says: the number of the command's row, or the refusal.
-abbrev pub command_as : Commanded → Answer ℕ
-command_as (Is c) = fine (number_of c)
-command_as (Refused r) = refused r.number r.place
+abbrev pub command_as : Result Name Refusal → Answer ℕ
+command_as r = said_as number_of r
+
+-- Fields follow by turns in FM.2, row 4.
+abbrev pub repeats_of : Name → Bool
+repeats_of c = eqb (number_of c) 4
 
 -- Each command has the row of its type id; and each row has a command. Proved in proofs/NameLaws.antt, as the next.
 abbrev pub RowsHaveTheirNames : Type 0

@@ -1,23 +1,24 @@
 // Is the other program's message one of the manual's commands?
 #![tactic(auto)]
 
-ghost use Rattle.std.specs.Prelude.{◌≡◌, List, ◌+◌, ◌-◌, ◌*◌, ◌<◌, ◌≤◌, length, get_or};
+ghost use Rattle.std.specs.Prelude.{◌≡◌, List, map, ◌+◌, ◌*◌, ◌<◌, ◌≤◌, length, get_or};
+ghost use Rattle.std.specs.List.{find};
 ghost use Rattle.sim0mq.specs.Answer.{big};
 ghost use Rattle.sim0mq.specs.Field as F;
 ghost use Rattle.sim0mq.specs.Header.{most_fields};
 ghost use Rattle.sim0mq.specs.Table.{row_size};
-ghost use Rattle.sim0mq.specs.Views.{judged};
-ghost use Rattle.commands_page.specs.Page.{number_or, basic as basic_of, state_string, fault_string, row_at, page};
-ghost use Rattle.commands_page.specs.Judging.{is_word, code_taken, text_taken, passes as passes_of, want_in, number_from, each as each_of, number_right, fields_right, looks_at, command_of, commanded};
-ghost use Rattle.commands.specs.Names.{number_of, command_as};
-ghost use Rattle.commands.specs.Tables.{count_row, want_row, want_of, Cell, Held, Ids, done, field_of, commanded_by};
+ghost use Rattle.sim0mq.specs.Views.{number_of as number_said};
+ghost use Rattle.commands_page.specs.Page.{number_or, row_at};
+ghost use Rattle.commands_page.specs.Judging.{is_word, code_taken, text_taken, passes as passes_of, want_in, each as each_of, number_right, fields_right, looks_at, command_of, commanded};
+ghost use Rattle.commands.specs.Names.{id_of, number_of, command_as, repeats_of};
+ghost use Rattle.commands.specs.Tables.{IsWord, want_of, Cell, Held, done, commanded_by};
 
-use reading::{Reading, read};
-use sim0mq::{CHANGE, FIELDS, Judged, NEW, ROW, Refusal, refuse};
+use reading::read;
+use sim0mq::{CHANGE, FIELDS, NEW, ROW, Reason, Refusal, refuse};
 use sim0mq_numbers::{wide, wide32};
 
 // The commands of the manual's chapter 4, in its order.
-#[derive(Clone, Copy)]
+#[derive(Clone, Copy, PartialEq, Eq, Debug)]
 pub enum Name {
     StartFederate,
     StarterRequestStatus,
@@ -39,47 +40,94 @@ pub enum Name {
     FederatesKilled,
 }
 
-// Which command a message is; or the refusal.
+// All of them.
+const NAMES: [Name; 18] = [
+    Name::StartFederate,
+    Name::StarterRequestStatus,
+    Name::Status,
+    Name::FederateStarted,
+    Name::SimRunControl,
+    Name::AckNak,
+    Name::SetParameter,
+    Name::SimStart,
+    Name::RequestStatus,
+    Name::RequestStatistics,
+    Name::Statistics,
+    Name::StatisticsError,
+    Name::SimReset,
+    Name::KillFederate,
+    Name::KillAll,
+    Name::KillModel,
+    Name::FederateKilled,
+    Name::FederatesKilled,
+];
+
+// What a command wants of a field: its code, and what a string says.
 #[derive(Clone, Copy)]
-pub enum Commanded {
-    Is(Name),
-    Refused(Refusal),
+enum Wanted {
+    Text,
+    Filled,
+    State,
+    Fault,
+    Boolean,
+    Short,
+    Integer,
+    Long,
+    Double,
+    AnyType,
+    Duration,
+    Time,
+    Basic,
 }
 
-// The rows of FM.2, in which fields follow by turns, and of FM.7, which is a change.
-const SIM_RUN_CONTROL: usize = 4;
+// What FM.1 wants of its fields; and FM.2, before those that follow by turns.
+const START: [Wanted; 12] = [
+    Wanted::Filled, // the instance id
+    Wanted::Filled,
+    Wanted::Text,
+    Wanted::Filled,
+    Wanted::Text,
+    Wanted::Filled,
+    Wanted::Text,
+    Wanted::Filled,
+    Wanted::Filled,
+    Wanted::Boolean,
+    Wanted::Boolean,
+    Wanted::Boolean,
+];
 
-const SIM_RESET: usize = 12;
+const RUN: [Wanted; 6] = [
+    Wanted::Duration,
+    Wanted::Duration,
+    Wanted::Time,
+    Wanted::Double,
+    Wanted::Integer,
+    Wanted::Integer,
+];
 
 // Byte i of s; 0 past its end.
 fn byte_at(s: &[u8], i: usize) -> u8
     ensures { result ≡ get_or s.now i 0 }
 {
-    if i < s.len() {
-        return s[i];
-    }
-    0
+    s.get(i).copied().unwrap_or(0)
 }
 
 // Whether the `size` bytes of s from `at` on are this word.
 fn word(s: &[u8], at: usize, size: usize, w: &[u8]) -> bool
-    requires { (at < 8589934592) × (length w.now < 8589934592) }
+    requires { (at < 8589934592) × IsWord w.now }
     ensures { result ≡ is_word s.now at size w.now }
 {
     if size != w.len() {
         return false;
     }
-    let mut i: usize = 0;
-    while i < w.len() {
-        if byte_at(s, at + i) != w[i] {
-            return false;
-        }
-        i += 1;
+    match s.get(at..at + size) {
+        None => false,
+        Some(part) => part == w,
     }
-    true
 }
 
 // The number that the four bytes from `at` on write.
+#[tactic(auto, unfolding(sim0mq::specs::Answer::big))]
 fn four(s: &[u8], at: usize) -> usize
     requires { at < 8589934592 }
     ensures { (result ≡ big s.now at 4) × (result < 4294967296) }
@@ -91,411 +139,303 @@ fn four(s: &[u8], at: usize) -> usize
     ((a * 256 + b) * 256 + c) * 256 + d
 }
 
-// Whether a field of code c, with unit type u if it has a mark, has a code that is wanted.
-fn takes(want: usize, c: usize, u: u8) -> bool
-    ensures { result ≡ code_taken (want_of want).codes c u }
-{
-    match want {
-        0 => c == 9,
-        1 => c == 9,
-        2 => c == 9,
-        3 => c == 9,
-        4 => c == 6,
-        5 => c == 1,
-        6 => c == 2,
-        7 => c == 3,
-        8 => c == 5,
-        9 => c <= 32,
-        10 => timed(c, u, 25),
-        11 => timed(c, u, 26),
-        12 => basic(c),
-        _ => c == 9,
-    }
-}
-
-// A number of code 1 to 5, or a float or double of this unit type.
+// Whether it is a number of code 1 to 5, or a float or double of this unit type.
+#[tactic(auto, unfolding(commands_page::specs::Judging::code_taken))]
 fn timed(c: usize, u: u8, unit: u8) -> bool
     ensures { result ≡ code_taken (number_or unit).codes c u }
 {
-    if c < 1 {
-        return false;
-    }
-    if c <= 5 {
-        return true;
-    }
-    if c < 25 {
-        return false;
-    }
-    if 26 < c {
-        return false;
-    }
-    u == unit
-}
-
-// A basic type: a short, an int, a long or a string.
-fn basic(c: usize) -> bool
-    ensures { result ≡ code_taken basic_of.codes c 0 }
-{
-    if c < 1 {
-        return false;
-    }
-    if c <= 3 {
-        return true;
-    }
-    c == 9
-}
-
-// Whether the string of `size` bytes from `first` on is as it is wanted.
-fn texts(s: &[u8], want: usize, first: usize, size: usize) -> bool
-    requires { first < 4294967296 }
-    ensures { result ≡ text_taken (want_of want).rule s.now first size }
-{
-    match want {
-        1 => 0 < size,
-        2 => state(s, first, size),
-        3 => fault(s, first, size),
-        _ => true,
+    match c {
+        1..=5 => true,
+        25 | 26 => u == unit,
+        _ => false,
     }
 }
 
-// Whether it is one of the four words of a status.
-fn state(s: &[u8], first: usize, size: usize) -> bool
-    requires { first < 4294967296 }
-    ensures { result ≡ text_taken state_string.rule s.now first size }
-{
-    if word(s, first, size, b"started") {
-        return true;
-    }
-    if word(s, first, size, b"running") {
-        return true;
-    }
-    if word(s, first, size, b"ended") {
-        return true;
-    }
-    word(s, first, size, b"error")
-}
-
-// Whether it is one of the two words of MC.4's error.
-fn fault(s: &[u8], first: usize, size: usize) -> bool
-    requires { first < 4294967296 }
-    ensures { result ≡ text_taken fault_string.rule s.now first size }
-{
-    if word(s, first, size, b"name") {
-        return true;
-    }
-    word(s, first, size, b"novalue")
-}
-
-// The number of a command's own fields.
-fn count(command: usize) -> usize
-    ensures { (result ≡ get_or count_row command 0) × (result ≤ 12) }
-{
-    match command {
-        0 => 12,
-        1 => 0,
-        2 => 3,
-        3 => 4,
-        4 => 6,
-        5 => 3,
-        6 => 2,
-        7 => 0,
-        8 => 0,
-        9 => 1,
-        10 => 2,
-        11 => 2,
-        12 => 0,
-        13 => 1,
-        14 => 0,
-        15 => 0,
-        16 => 3,
-        17 => 2,
-        _ => 0,
-    }
-}
-
-// What a command wants of its own fields: a hexadecimal digit for each, the first field's last.
-fn wants(command: usize) -> usize
-    ensures { result ≡ get_or want_row command 0 }
-{
-    match command {
-        0 => 0x444110101011,
-        1 => 0x0,
-        2 => 0x27,
-        3 => 0x520,
-        4 => 0x668baa,
-        5 => 0x47,
-        6 => 0x90,
-        7 => 0x0,
-        8 => 0x0,
-        9 => 0x0,
-        10 => 0x90,
-        11 => 0x30,
-        12 => 0x0,
-        13 => 0x0,
-        14 => 0x0,
-        15 => 0x0,
-        16 => 0x40,
-        17 => 0x4,
-        _ => 0,
-    }
-}
-
-// What a command wants of its field i.
-fn want(command: usize, i: usize) -> usize
-    requires { command < 18 }
-    ensures { want_of result ≡ want_in (row_at command) i }
-{
-    let n = count(command);
-    if i < n {
-        return (wants(command) >> (4 * i)) % 16;
-    }
-    if command != SIM_RUN_CONTROL {
-        return 0;
-    }
-    if (i - n) % 2 == 0 {
-        return 12;
-    }
-    7
-}
-
-// The number of the command whose type id the `size` bytes from `at` on are, of these ids; 18 where there is none.
-fn numbered_in(s: &[u8], at: usize, size: usize, ids: &[u8]) -> usize
-    requires { (at < 8589934592) × Ids ids.now }
-    ensures { (result ≡ number_from s.now at size page 0) × (result ≤ 18) }
-{
-    let mut k: usize = 0;
-    while k < 18 {
-        let a = 4 * k;
-        let e = a + 4;
-        if word(s, at, size, &ids[a..e]) {
-            return k;
+impl Wanted {
+    // Whether a field of code c, with unit type u if it has a mark, has a code that is wanted.
+    #[tactic(auto, unfolding(commands_page::specs::Judging::code_taken))]
+    fn takes(self, c: usize, u: u8) -> bool
+        ensures { result ≡ code_taken (want_of self).codes c u }
+    {
+        match self {
+            Wanted::Text | Wanted::Filled | Wanted::State | Wanted::Fault => c == 9,
+            Wanted::Boolean => c == 6,
+            Wanted::Short => c == 1,
+            Wanted::Integer => c == 2,
+            Wanted::Long => c == 3,
+            Wanted::Double => c == 5,
+            Wanted::AnyType => c <= 32,
+            Wanted::Duration => timed(c, u, 25),
+            Wanted::Time => timed(c, u, 26),
+            Wanted::Basic => matches!(c, 1..=3 | 9),
         }
-        k += 1;
     }
-    k
+
+    // Whether the string of `size` bytes from `first` on is as it is wanted.
+    #[tactic(auto, unfolding(commands_page::specs::Judging::text_taken, commands_page::specs::Judging::is_one_of))]
+    fn reads(self, s: &[u8], first: usize, size: usize) -> bool
+        requires { first < 4294967296 }
+        ensures { result ≡ text_taken (want_of self).rule s.now first size }
+    {
+        match self {
+            Wanted::Filled => 0 < size,
+            Wanted::State => {
+                word(s, first, size, b"started")
+                    || word(s, first, size, b"running")
+                    || word(s, first, size, b"ended")
+                    || word(s, first, size, b"error")
+            }
+            Wanted::Fault => word(s, first, size, b"name") || word(s, first, size, b"novalue"),
+            _ => true,
+        }
+    }
 }
 
-// The number of the command whose type id these bytes are; 18 where there is none.
-fn numbered(s: &[u8], at: usize, size: usize) -> usize
+impl Name {
+    // Its type id.
+    fn id(self) -> &'static [u8]
+        ensures { (result.now ≡ id_of self) × IsWord result.now }
+    {
+        match self {
+            Name::StartFederate => b"FM.1",
+            Name::StarterRequestStatus => b"FS.1",
+            Name::Status => b"MC.1",
+            Name::FederateStarted => b"FS.2",
+            Name::SimRunControl => b"FM.2",
+            Name::AckNak => b"MC.2",
+            Name::SetParameter => b"FM.3",
+            Name::SimStart => b"FM.4",
+            Name::RequestStatus => b"FM.5",
+            Name::RequestStatistics => b"FM.6",
+            Name::Statistics => b"MC.3",
+            Name::StatisticsError => b"MC.4",
+            Name::SimReset => b"FM.7",
+            Name::KillFederate => b"FM.8",
+            Name::KillAll => b"FM.9",
+            Name::KillModel => b"FS.3",
+            Name::FederateKilled => b"FS.4",
+            Name::FederatesKilled => b"FS.5",
+        }
+    }
+
+    // Its status: change for FM.7, new for the others.
+    fn status(self) -> u8
+        ensures { result ≡ (row_at (number_of self)).status }
+    {
+        match self {
+            Name::SimReset => CHANGE,
+            _ => NEW,
+        }
+    }
+
+    // What it wants of its own fields.
+    #[tactic(auto, unfolding(commands_page::specs::Page::page, commands_page::specs::Page::row_at))]
+    fn wants(self) -> &'static [Wanted]
+        ensures { map want_of result.now ≡ (row_at (number_of self)).fields }
+    {
+        match self {
+            Name::StartFederate => &START,
+            Name::Status => &[Wanted::Long, Wanted::State, Wanted::Text],
+            Name::FederateStarted => &[Wanted::Text, Wanted::State, Wanted::Short, Wanted::Text],
+            Name::SimRunControl => &RUN,
+            Name::AckNak => &[Wanted::Long, Wanted::Boolean, Wanted::Text],
+            Name::SetParameter => &[Wanted::Text, Wanted::AnyType],
+            Name::RequestStatistics => &[Wanted::Text],
+            Name::Statistics => &[Wanted::Text, Wanted::AnyType],
+            Name::StatisticsError => &[Wanted::Text, Wanted::Fault],
+            Name::KillFederate => &[Wanted::Text],
+            Name::FederateKilled => &[Wanted::Text, Wanted::Boolean, Wanted::Text],
+            Name::FederatesKilled => &[Wanted::Boolean, Wanted::Text],
+            Name::StarterRequestStatus
+            | Name::SimStart
+            | Name::RequestStatus
+            | Name::SimReset
+            | Name::KillAll
+            | Name::KillModel => &[],
+        }
+    }
+
+    // Whether fields follow its own by turns, as in FM.2.
+    fn repeats(self) -> bool
+        ensures { result ≡ repeats_of self }
+    {
+        matches!(self, Name::SimRunControl)
+    }
+
+    // What it wants of its field i.
+    fn want(self, i: usize) -> Wanted
+        ensures { want_of result ≡ want_in (row_at (number_of self)) i }
+    {
+        let own = self.wants();
+        if i < own.len() {
+            return own[i];
+        }
+        if !self.repeats() {
+            return Wanted::Text;
+        }
+        if (i - own.len()) % 2 == 0 {
+            return Wanted::Basic;
+        }
+        Wanted::Long
+    }
+}
+
+// The first of these commands whose type id the `size` bytes from `at` on are.
+fn named(names: &[Name], s: &[u8], at: usize, size: usize) -> Option<Name>
     requires { at < 8589934592 }
-    ensures { (result ≡ number_from s.now at size page 0) × (result ≤ 18) }
+    ensures { result ≡ find (λ c. is_word s.now at size (id_of c)) names.now }
 {
-    numbered_in(
-        s,
-        at,
-        size,
-        b"FM.1FS.1MC.1FS.2FM.2MC.2FM.3FM.4FM.5FM.6MC.3MC.4FM.7FM.8FM.9FS.3FS.4FS.5",
-    )
+    names.iter().copied().find(|c| word(s, at, size, c.id()))
 }
 
-// Whether a field passes the test of refusal `number`.
-fn passes(
-    s: &[u8],
-    number: u32,
-    want: usize,
-    c: usize,
-    place: usize,
-    first: usize,
-    size: usize,
-) -> bool
-    requires { (place < 4294967296) × (first < 4294967296) }
-    ensures { result ≡ passes_of number s.now (want_of want) (field_of c place first size) }
-{
-    if number == 22 {
-        return takes(want, c, byte_at(s, place + 1));
-    }
-    texts(s, want, first, size)
+// Where the judge looks in the header: the type frame's place and code, the place after it, and that of the status
+// byte.
+#[derive(Clone, Copy)]
+struct Looks {
+    kind: usize,
+    code: usize,
+    next: usize,
+    status: usize,
 }
 
-// Whether field i of a command, whose row the table has, passes the test of refusal `number`.
-fn right(s: &[u8], command: usize, number: u32, i: usize, table: &[u32]) -> bool
-    requires { (command < 18) × (i < most_fields) × (row_size * i + row_size ≤ length table.now) }
-    ensures { (f : F.Field) → Cell table.now (row_size * i) f
-        → result ≡ passes_of number s.now (want_in (row_at command) i) f }
-{
-    let at = ROW * i;
-    let w = want(command, i);
-    let c = wide32(table[at]);
-    let place = wide32(table[at + 1]);
-    let first = wide32(table[at + 2]);
-    let size = wide32(table[at + 3]);
-    passes(s, number, w, c, place, first, size)
+// An accepted message, the number of its fields, and the table that has their rows.
+#[derive(Clone, Copy)]
+struct Rows<'a> {
+    s: &'a [u8],
+    n: usize,
+    table: &'a [u32],
+    ghost in_range: { (n ≤ most_fields) × (row_size * n ≤ length table.now) },
 }
 
-// The fields of a command pass the test of refusal `number`, the earlier first.
-fn each(s: &[u8], command: usize, number: u32, n: usize, table: &[u32]) -> Judged
-    requires { (command < 18) × (n ≤ most_fields) × (row_size * n ≤ length table.now) }
-    ensures { (fs : List F.Field) → Held table.now n fs
-        → judged result ≡ done (each_of s.now (row_at command) number 0 fs) }
-{
-    let mut i: usize = 0;
-    while i < n {
-        if !right(s, command, number, i, table) {
-            return refuse(number, wide32(table[ROW * i + 1]));
+impl Rows<'_> {
+    // Whether field i of a command passes the test of this refusal: of its code, or else of its string.
+    #[tactic(auto, unfolding(sim0mq::specs::Table::row_size))]
+    fn right(&self, name: Name, reason: Reason, i: usize) -> bool
+        requires { i < self.now.n }
+        ensures { (f : F.Field) → Cell self.now.table.now (row_size * i) f
+            → result ≡ passes_of (number_said reason) self.now.s.now (want_in (row_at (number_of name)) i) f }
+    {
+        let at = ROW * i;
+        let want = name.want(i);
+        match reason {
+            Reason::FieldCode => {
+                let place = wide32(self.table[at + 1]);
+                want.takes(wide32(self.table[at]), byte_at(self.s, place + 1))
+            }
+            _ => want.reads(
+                self.s,
+                wide32(self.table[at + 2]),
+                wide32(self.table[at + 3]),
+            ),
         }
-        i += 1;
     }
-    Judged::Accepted(0)
-}
 
-// The status of a command: change for FM.7, new for the others.
-fn status(command: usize) -> u8
-    requires { command < 18 }
-    ensures { result ≡ (row_at command).status }
-{
-    if command == SIM_RESET {
-        return CHANGE;
-    }
-    NEW
-}
-
-// The number of a command's fields is right: in FM.2 the sixth says how many pairs follow.
-fn counted(s: &[u8], kind: usize, command: usize, n: usize, table: &[u32]) -> Judged
-    requires { (command < 18) × (n ≤ most_fields) × (row_size * n ≤ length table.now) }
-    ensures { (fs : List F.Field) → Held table.now n fs
-        → judged result ≡ done (number_right s.now kind (row_at command) fs) }
-{
-    if command != SIM_RUN_CONTROL {
-        if n != count(command) {
-            return refuse(21, kind);
+    // The fields of a command pass the test of this refusal, the earlier first.
+    #[tactic(auto, unfolding(sim0mq::specs::Table::row_size))]
+    fn each(&self, name: Name, reason: Reason) -> Result<(), Refusal>
+        ensures { (fs : List F.Field) → Held self.now.table.now self.now.n fs
+            → done result ≡ each_of self.now.s.now (row_at (number_of name)) (number_said reason) 0 fs }
+    {
+        for i in 0..self.n {
+            if !self.right(name, reason, i) {
+                return refuse(reason, wide32(self.table[ROW * i + 1]));
+            }
         }
-        return Judged::Accepted(0);
+        Ok(())
     }
-    if n < 6 {
-        return refuse(21, kind);
-    }
-    let sixth = 5 * ROW;
-    if wide32(table[sixth]) != 2 {
-        return refuse(22, wide32(table[sixth + 1]));
-    }
-    let first = wide32(table[sixth + 2]);
-    if 128 <= byte_at(s, first) {
-        return refuse(21, kind);
-    }
-    if n != 6 + 2 * four(s, first) {
-        return refuse(21, kind);
-    }
-    Judged::Accepted(0)
-}
 
-// The fields of a command: their number, their codes, their strings.
-fn fields(s: &[u8], kind: usize, command: usize, n: usize, table: &[u32]) -> Judged
-    requires { (command < 18) × (n ≤ most_fields) × (row_size * n ≤ length table.now) }
-    ensures { (fs : List F.Field) → Held table.now n fs
-        → judged result ≡ fields_right s.now kind command fs }
-{
-    match counted(s, kind, command, n, table) {
-        Judged::Refused(r) => Judged::Refused(r),
-        Judged::Accepted(a) => match each(s, command, 22, n, table) {
-            Judged::Refused(r) => Judged::Refused(r),
-            Judged::Accepted(b) => match each(s, command, 23, n, table) {
-                Judged::Refused(r) => Judged::Refused(r),
-                Judged::Accepted(d) => Judged::Accepted(command),
-            },
-        },
+    // The number of a command's fields is right: in FM.2 the sixth says how many pairs follow.
+    #[tactic(auto, unfolding(sim0mq::specs::Table::row_size))]
+    fn counted(&self, kind: usize, name: Name) -> Result<(), Refusal>
+        ensures { (fs : List F.Field) → Held self.now.table.now self.now.n fs
+            → done result ≡ number_right self.now.s.now kind (row_at (number_of name)) fs }
+    {
+        if !name.repeats() {
+            if self.n != name.wants().len() {
+                return refuse(Reason::FieldCount, kind);
+            }
+            return Ok(());
+        }
+        if self.n < 6 {
+            return refuse(Reason::FieldCount, kind);
+        }
+        let sixth = 5 * ROW;
+        if wide32(self.table[sixth]) != 2 {
+            return refuse(Reason::FieldCode, wide32(self.table[sixth + 1]));
+        }
+        let first = wide32(self.table[sixth + 2]);
+        if 128 <= byte_at(self.s, first) {
+            return refuse(Reason::FieldCount, kind);
+        }
+        if self.n != 6 + 2 * four(self.s, first) {
+            return refuse(Reason::FieldCount, kind);
+        }
+        Ok(())
     }
-}
 
-// a less b, or 0.
-fn less(a: usize, b: usize) -> usize
-    ensures { result ≡ a - b }
-{
-    if a < b {
-        return 0;
+    // The fields of a command: their number, their codes, their strings.
+    fn fields(&self, kind: usize, name: Name) -> Result<Name, Refusal>
+        ensures { (fs : List F.Field) → Held self.now.table.now self.now.n fs
+            → command_as result ≡ fields_right self.now.s.now kind (number_of name) fs }
+    {
+        self.counted(kind, name)?;
+        self.each(name, Reason::FieldCode)?;
+        self.each(name, Reason::Text)?;
+        Ok(name)
     }
-    a - b
-}
 
-// The command that a message is, whose type frame stands at `kind`, has code c and ends at `next`, whose status byte
-// stands at `at`, and whose rows the table has.
-fn judge(s: &[u8], kind: usize, c: usize, next: usize, at: usize, n: usize, table: &[u32]) -> Judged
-    requires { (kind < 4294967296) × (n ≤ most_fields) × (row_size * n ≤ length table.now) }
-    ensures { (fs : List F.Field) → Held table.now n fs
-        → judged result ≡ command_of s.now (looks_at kind c next at) fs }
-{
-    if c != 9 {
-        return refuse(20, kind);
-    }
-    let id = kind + 5;
-    let k = numbered(s, id, less(next, id));
-    if 18 <= k {
-        return refuse(20, kind);
-    }
-    if byte_at(s, at) != status(k) {
-        return refuse(21, kind);
-    }
-    fields(s, kind, k, n, table)
-}
-
-// The command of this number.
-fn named(k: usize) -> Name
-    requires { k < 18 }
-    ensures { number_of result ≡ k }
-{
-    match k {
-        0 => Name::StartFederate,
-        1 => Name::StarterRequestStatus,
-        2 => Name::Status,
-        3 => Name::FederateStarted,
-        4 => Name::SimRunControl,
-        5 => Name::AckNak,
-        6 => Name::SetParameter,
-        7 => Name::SimStart,
-        8 => Name::RequestStatus,
-        9 => Name::RequestStatistics,
-        10 => Name::Statistics,
-        11 => Name::StatisticsError,
-        12 => Name::SimReset,
-        13 => Name::KillFederate,
-        14 => Name::KillAll,
-        15 => Name::KillModel,
-        16 => Name::FederateKilled,
-        _ => Name::FederatesKilled,
+    // The command that the message is.
+    fn judge(&self, l: Looks) -> Result<Name, Refusal>
+        requires { l.kind < 4294967296 }
+        ensures { (fs : List F.Field) → Held self.now.table.now self.now.n fs
+            → command_as result ≡ command_of self.now.s.now (looks_at l.kind l.code l.next l.status) fs }
+    {
+        if l.code != 9 {
+            return refuse(Reason::MessageType, l.kind);
+        }
+        let id = l.kind + 5;
+        let Some(name) = named(&NAMES, self.s, id, l.next.saturating_sub(id)) else {
+            return refuse(Reason::MessageType, l.kind);
+        };
+        if byte_at(self.s, l.status) != name.status() {
+            return refuse(Reason::FieldCount, l.kind);
+        }
+        self.fields(l.kind, name)
     }
 }
 
 // Which command the message is, by a table that holds its rows; 14 where it has no room for them.
-fn command_by(message: &[u8], table: &mut [u32]) -> Commanded
+fn command_by(message: &[u8], table: &mut [u32]) -> Result<Name, Refusal>
     ensures { command_as result ≡ commanded_by (length table.old) message.now }
 {
     let answer = read(message, table);
-    let said = answer.said;
-    let frames = answer.frames;
-    match said {
-        Reading::Refused(r) => Commanded::Refused(r),
-        Reading::Accepted(found) => {
-            let kind = frames[4];
-            let next = frames[5];
-            let status = frames[6];
-            match judge(
-                message,
-                kind.place,
-                kind.code,
-                next.place,
-                status.place + 1,
-                found.fields,
-                table,
-            ) {
-                Judged::Refused(r) => Commanded::Refused(r),
-                Judged::Accepted(k) => Commanded::Is(named(k)),
-            }
-        }
-    }
+    let found = answer.said?;
+    let rows = Rows {
+        s: message,
+        n: found.fields,
+        table,
+    };
+    rows.judge(Looks {
+        kind: answer.frames[4].place,
+        code: answer.frames[4].code,
+        next: answer.frames[5].place,
+        status: answer.frames[6].place + 1,
+    })
 }
 
 // Which command the message is. Only FM.2 has more than twelve fields, so a table of twelve rows is tried first.
-pub fn command(message: &[u8]) -> Commanded
+pub fn command(message: &[u8]) -> Result<Name, Refusal>
     ensures { command_as result ≡ commanded message.now }
 {
     let mut few = [0u32; 12 * ROW];
     match command_by(message, &mut few) {
-        Commanded::Is(name) => Commanded::Is(name),
-        Commanded::Refused(r) => {
-            if r.number != 14 {
-                return Commanded::Refused(r);
+        Ok(name) => Ok(name),
+        Err(r) => match r.reason {
+            Reason::TooShort => {
+                let mut all = [0u32; FIELDS * ROW];
+                command_by(message, &mut all)
             }
-            let mut all = [0u32; FIELDS * ROW];
-            command_by(message, &mut all)
-        }
+            _ => Err(r),
+        },
     }
 }

@@ -6,50 +6,64 @@ use mathlib.Core.Bool.{cond}
 use lib.Dec.{eqb}
 use Rattle.determining.specs.Outcomes.{Determines}
 use Rattle.determining.proofs.Equations.{determined, equated}
+use denote.RattleType.{RattleType}
+use denote.Param.Laws.{Laws, IsCopy}
+use mir.Syntax.{Dict}
+use Rattle.std.specs.Prelude.{Result, Option, Some, None}
+use Rattle.std.specs.declared.clone.Clone as Clone
 use Rattle.sim0mq.specs.Answer.{Answer, fine, refused}
-use Rattle.sim0mq.specs.Views.{judged}
+use Rattle.sim0mq.specs.Views.{number_of, said_as, judged}
 use Rattle.sim0mq.specs.declared.Refusal.{Refusal}
-use Rattle.sim0mq.specs.declared.Judged.{Judged}
-use Rattle.sim0mq.specs.declared.Judged.TheVariants.{Accepted, Refused}
 use Rattle.sim0mq.proofs.Answers.{not_fine, fine_eq}
-use Rattle.reading_heads.specs.Heads.{headed}
-use Rattle.reading_heads.specs.declared.Headed.{Headed}
-use Rattle.reading_heads.specs.declared.Headed.TheVariants.{Accepted as Headed-as-Accepted, Refused as Headed-as-Refused}
+use Rattle.sim0mq.proofs.Passing.{number_apart, said_apart}
+use Rattle.sim0mq_tables.specs.Markings.{marking_number}
+use Rattle.sim0mq_tables.specs.declared.Marked.{Marked}
+use Rattle.sim0mq_tables.specs.declared.Marked.TheVariants as Marked
+use Rattle.reading_heads.specs.Heads.{head_in, headed}
+use Rattle.reading_heads.specs.declared.Asked.{Asked}
+use Rattle.reading_fields.specs.Items as Items
 use Rattle.reading_fields.specs.Items.{fielded}
-use Rattle.reading_fields.specs.declared.Fielded.{Fielded}
-use Rattle.reading_fields.specs.declared.Fielded.TheVariants.{Accepted as Fielded-as-Accepted, Refused as Fielded-as-Refused}
+use Rattle.reading_fields.specs.declared.Field.{Field}
+use Rattle.reading_header.specs.Frames.{told_as}
+use Rattle.reading_header.specs.declared.Answer as Header
+use Rattle.reading.specs.Answers.{answer_as}
+use Rattle.reading.specs.declared.Answer as Reading
 use Rattle.asking_scalars.specs.Scalars.{valued}
-use Rattle.asking_scalars.specs.declared.answer.Value.{Value}
-use Rattle.asking_scalars.specs.declared.answer.Value.TheVariants.{Is, Refused as Value-as-Refused}
-use Rattle.recordings_index.specs.Index.{trailed_as}
-use Rattle.recordings_index.specs.declared.Trailed.{Trailed}
-use Rattle.recordings_index.specs.declared.Trailed.TheVariants.{Found, Wrong}
+use Rattle.sim0mq_kinds.specs.declared.Scalar.{Scalar}
+use Rattle.recordings_index.specs.Index.{trailer_as, trailed_as}
+use Rattle.recordings_index.specs.declared.Trailer.{Trailer}
+use Rattle.recordings_index.specs.declared.Placed.{Placed}
 use Rattle.recordings_index.specs.Tail.{there, wanted}
 use Rattle.recordings_index.specs.Tail as Tail
 use Rattle.recordings_index.specs.Index.{reached_as}
 use Rattle.recordings_index.specs.declared.Reached.{Reached}
-use Rattle.recordings_index.specs.declared.Reached.TheVariants.{Found as Reached-as-Found, Wrong as Reached-as-Wrong, Wanted}
-use Rattle.recordings_reaching.specs.Reaching.{reaching_as}
+use Rattle.recordings_index.specs.declared.Reached.TheVariants.{Found, Wrong, Wanted}
+use Rattle.recordings.specs.Recordings.{placed_as, asked_as}
+use Rattle.recordings_reaching.specs.Reaching.{reached_of, reaching_as}
 use Rattle.recordings_reaching.specs.declared.Reaching.{Reaching}
-use Rattle.recordings_reaching.specs.declared.Reaching.TheVariants.{At as Reaching-as-At, Wanted as Reaching-as-Wanted, Refused as Reaching-as-Refused}
+use Rattle.recordings_reaching.specs.declared.Reaching.TheVariants as Reaching
+use Rattle.recordings_fronts.specs.Fronts.{stop_of, divided_as}
+use Rattle.recordings_fronts.specs.declared.Stop.{Stop}
+use Rattle.recordings_fronts.specs.declared.Stop.TheVariants as Stop
+use Rattle.recordings_fronts.specs.declared.Divided.{Divided}
+use Rattle.recordings_writing.specs.Recorder as Recorder
+use Rattle.recordings_writing.specs.declared.Recorded.{Recorded}
+use Rattle.recordings_salvaging.specs.Saving.{report_as, salvaged_as}
+use Rattle.recordings_salvaging.specs.declared.Report.{Report}
+use Rattle.writing.specs.Writing.{wrote_as}
+use Rattle.writing.specs.declared.Wrote.{Wrote}
+use Rattle.senders.specs.Senders.{took_as}
+use Rattle.senders.specs.declared.Taken.{Taken}
+use Rattle.ledger.specs.Ledger.{mustered_as}
+use Rattle.ledger.specs.declared.Mustered.{Mustered}
+use Rattle.ledger_recordings.specs.Reckoning.{comes_as}
+use Rattle.ledger_recordings.specs.declared.Reckoned.{Reckoned}
 use Rattle.ledger_judging.specs.Judging.{ordered}
-use Rattle.ledger_judging.specs.declared.Ordered.{Ordered}
-use Rattle.ledger_judging.specs.declared.Ordered.TheVariants.{Granted, Refused as Ordered-as-Refused}
-use Rattle.recordings.specs.Recordings.{asked_as}
-use Rattle.recordings.specs.declared.Asked.{Asked}
-use Rattle.recordings.specs.declared.Asked.TheVariants.{At, Refused as Asked-as-Refused}
+use Rattle.ledger_decks.specs.declared.Deed.{Deed}
 use Rattle.commands.specs.Names.{command_as}
-use Rattle.commands.specs.declared.Commanded.{Commanded}
-use Rattle.commands.specs.declared.Commanded.TheVariants.{Is as Command-as-Is, Refused as Command-as-Refused}
+use Rattle.commands.specs.Names as Commands
+use Rattle.commands.specs.declared.Name.{Name}
 use Rattle.commands.proofs.NameLaws.{same_name}
-use Rattle.sums_quantities.specs.declared.angles.Angle.{Angle}
-use Rattle.sums_quantities.specs.declared.angles.Direction.{Direction}
-use Rattle.sums_quantities.specs.declared.durations.Duration.{Duration}
-use Rattle.sums_quantities.specs.declared.durations.Time.{Time}
-use Rattle.sums_quantities.specs.declared.lengths.Length.{Length}
-use Rattle.sums_quantities.specs.declared.lengths.Position.{Position}
-use Rattle.sums_quantities.specs.declared.temperatures.AbsoluteTemperature.{AbsoluteTemperature}
-use Rattle.sums_quantities.specs.declared.temperatures.Temperature.{Temperature}
 use Rattle.sums_pairs.specs.Pairs as Pairs
 use Rattle.sums_pairs.specs.Pairs.{relative, absolute}
 use Rattle.sums_pairs.specs.Views.{seen}
@@ -57,6 +71,7 @@ use Rattle.sums_pairs.specs.declared.Quantity.{Quantity}
 use Rattle.sums_pairs.specs.declared.Quantity.TheVariants.{Other}
 use Rattle.sums_pairs.specs.declared.Quantity.TheVariants as Q
 use Rattle.sim0mq.proofs.refuse.Reads as sim0mq_refuse
+use Rattle.sim0mq.proofs.Reason.number.Reads as reason_number
 use Rattle.reading_parts.proofs.part.Reads as part
 use Rattle.reading_parts.proofs.part_from.Reads as part_from
 use Rattle.reading_parts.proofs.keep_lead.Reads as keep_lead
@@ -108,6 +123,7 @@ use Rattle.writing.proofs.Writer.add_scalar.Reads as add_scalar
 use Rattle.writing.proofs.Writer.close.Reads as close
 use Rattle.recordings_index.proofs.index.Reads as index
 use Rattle.recordings_index.proofs.index_tail.Reads as index_tail
+use Rattle.recordings_index.proofs.Trailer.entry.Reads as trailer_entry
 use Rattle.recordings.proofs.open.Reads as recording_open
 use Rattle.recordings.proofs.open_into.Reads as open_into
 use Rattle.recordings.proofs.ask.Reads as recording_ask
@@ -143,30 +159,17 @@ use Rattle.boundary_crossing.proofs.give_view.Reads as give_view
 use Rattle.boundary_writer_crossing.proofs.give_wrote.Reads as give_wrote
 use Rattle.boundary_writer_crossing.proofs.writer_of.Reads as writer_of
 use Rattle.boundary_writer_crossing.proofs.count_type.Reads as count_type
-use Rattle.sums_quantities.proofs.lengths.Length.plus.Reads as length_plus
-use Rattle.sums_quantities.proofs.lengths.Length.plus_position.Reads as length_plus_position
-use Rattle.sums_quantities.proofs.lengths.Length.less.Reads as length_less
-use Rattle.sums_quantities.proofs.lengths.Position.plus.Reads as position_plus
-use Rattle.sums_quantities.proofs.lengths.Position.less.Reads as position_less
-use Rattle.sums_quantities.proofs.lengths.Position.less_position.Reads as position_less_position
-use Rattle.sums_quantities.proofs.durations.Duration.plus.Reads as duration_plus
-use Rattle.sums_quantities.proofs.durations.Duration.plus_time.Reads as duration_plus_time
-use Rattle.sums_quantities.proofs.durations.Duration.less.Reads as duration_less
-use Rattle.sums_quantities.proofs.durations.Time.plus.Reads as time_plus
-use Rattle.sums_quantities.proofs.durations.Time.less.Reads as time_less
-use Rattle.sums_quantities.proofs.durations.Time.less_time.Reads as time_less_time
-use Rattle.sums_quantities.proofs.angles.Angle.plus.Reads as angle_plus
-use Rattle.sums_quantities.proofs.angles.Angle.plus_direction.Reads as angle_plus_direction
-use Rattle.sums_quantities.proofs.angles.Angle.less.Reads as angle_less
-use Rattle.sums_quantities.proofs.angles.Direction.plus.Reads as direction_plus
-use Rattle.sums_quantities.proofs.angles.Direction.less.Reads as direction_less
-use Rattle.sums_quantities.proofs.angles.Direction.less_direction.Reads as direction_less_direction
-use Rattle.sums_quantities.proofs.temperatures.Temperature.plus.Reads as temperature_plus
-use Rattle.sums_quantities.proofs.temperatures.Temperature.plus_absolute_temperature.Reads as temperature_plus_absolute_temperature
-use Rattle.sums_quantities.proofs.temperatures.Temperature.less.Reads as temperature_less
-use Rattle.sums_quantities.proofs.temperatures.AbsoluteTemperature.plus.Reads as absolute_temperature_plus
-use Rattle.sums_quantities.proofs.temperatures.AbsoluteTemperature.less.Reads as absolute_temperature_less
-use Rattle.sums_quantities.proofs.temperatures.AbsoluteTemperature.less_absolute_temperature.Reads as absolute_temperature_less_absolute_temperature
+use Rattle.sums_quantities.specs.declared.quantity.Quantity as Number
+use Rattle.sums_quantities.specs.declared.relative.Relative as Relative
+use Rattle.sums_quantities.specs.declared.absolute.Absolute as Absolute
+use Rattle.sums_quantities.proofs.quantity.Quantity.of.Reads as quantity_of_number
+use Rattle.sums_quantities.proofs.quantity.Quantity.shown.Reads as quantity_shown
+use Rattle.sums_quantities.proofs.relative.Relative.plus.Reads as relative_plus
+use Rattle.sums_quantities.proofs.relative.Relative.plus_absolute.Reads as relative_plus_absolute
+use Rattle.sums_quantities.proofs.relative.Relative.less.Reads as relative_less
+use Rattle.sums_quantities.proofs.absolute.Absolute.plus.Reads as absolute_plus
+use Rattle.sums_quantities.proofs.absolute.Absolute.less.Reads as absolute_less
+use Rattle.sums_quantities.proofs.absolute.Absolute.less_absolute.Reads as absolute_less_absolute
 use Rattle.sums_quantities.proofs.shown.plus.Reads as shown_plus
 use Rattle.sums_quantities.proofs.shown.less.Reads as shown_less
 use Rattle.sums_pairs.proofs.quantity_of.Reads as quantity_of
@@ -209,30 +212,58 @@ use Rattle.programs_listing.proofs.first_line.Reads as first_line
 -- The call named NAME above has such a theorem of its result, NAME_result, and of each buffer that it may write, by the
 -- parameter's name; tools/public-calls looks for them.
 
--- The views of answers tell them apart: two refusals of one number at one place are one.
-same_refusal : {A : Type 0} (r q : Refusal) → ◌≡◌ {A = Answer A} (refused r.number r.place) (refused q.number q.place) → r ≡ q
-same_refusal r q e = let n : r.number ≡ q.number = cc in let p : r.place ≡ q.place = cc in λ i. record { number = n i; place = p i }
+-- The views of answers tell them apart: a value by what is seen of it, a refusal by its number and its place.
+judged_apart : (x y : Result ℕ Refusal) → judged x ≡ judged y → x ≡ y
+judged_apart x y e = said_apart (λ n. n) (λ n m q. q) x y e
 
-judged_apart : (x y : Judged) → judged x ≡ judged y → x ≡ y
-judged_apart (Accepted n) (Accepted m) e = cc
-judged_apart (Accepted n) (Refused r) e = absurd (not_fine (sym e))
-judged_apart (Refused r) (Accepted n) e = absurd (not_fine e)
-judged_apart (Refused r) (Refused q) e = ap Refused (same_refusal r q e)
+headed_apart : (x y : Result Asked Refusal) → headed x ≡ headed y → x ≡ y
+headed_apart x y e =
+    said_apart head_in (λ f g s i. record { code = (s i).code; values = (s i).values; marked = (s i).marked; next = (s i).next }) x y e
 
-trailed_apart : (x y : Trailed) → trailed_as x ≡ trailed_as y → x ≡ y
-trailed_apart (Found t) (Found u) e =
-    let s = fine_eq e in
+fielded_apart : (x y : Result Field Refusal) → fielded x ≡ fielded y → x ≡ y
+fielded_apart x y e =
+    said_apart Items.seen
+    (λ f g s i. record { code = (s i).code; place = (s i).place; first = (s i).first; size = (s i).size; marked = (s i).marked; values = (s i).values })
+    x y e
+
+valued_apart : (x y : Result Scalar Refusal) → valued x ≡ valued y → x ≡ y
+valued_apart x y e = said_apart (λ v. v) (λ v w q. q) x y e
+
+told_apart : (x y : Header.Answer) → told_as x ≡ told_as y → x ≡ y
+told_apart x y e = λ i. record { said = said_apart (λ v. v) (λ v w q. q) x.said y.said (λ j. (e j).said) i; frames = (e i).frames }
+
+answer_apart : (x y : Reading.Answer) → answer_as x ≡ answer_as y → x ≡ y
+answer_apart x y e = λ i. record { said = said_apart (λ v. v) (λ v w q. q) x.said y.said (λ j. (e j).said) i; frames = (e i).frames }
+
+-- The marks of a field code are found again by their number.
+marked_again : ℕ → Marked
+marked_again n = cond (eqb n 0) Marked.None (cond (eqb n 1) Marked.One Marked.PerColumn)
+
+marked_found : (m : Marked) → marked_again (marking_number m) ≡ m
+unfolding marked_again
+marked_found Marked.None = refl
+marked_found Marked.One = refl
+marked_found Marked.PerColumn = refl
+
+marked_apart : (x y : Marked) → marking_number x ≡ marking_number y → x ≡ y
+marked_apart x y e = sym (marked_found x) ∙ ap marked_again e ∙ marked_found y
+
+-- A trailer is told by what the definitions have of it.
+trailer_apart : (t u : Trailer) → trailer_as t ≡ trailer_as u → t ≡ u
+trailer_apart t u s =
     λ i.
-    Found
-    (record {
+    record {
       edition =
           record { number = (s i).edition.number; wide = (s i).edition.length_bytes; most = (s i).edition.most };
       place = (s i).place;
       entries = (s i).entries;
-    })
-trailed_apart (Found t) Wrong e = absurd (not_fine (sym e))
-trailed_apart Wrong (Found t) e = absurd (not_fine e)
-trailed_apart Wrong Wrong e = refl
+    }
+
+trailed_apart : (x y : Option Trailer) → trailed_as x ≡ trailed_as y → x ≡ y
+trailed_apart (Some t) (Some u) e = ap Some (trailer_apart t u (fine_eq e))
+trailed_apart (Some t) None e = absurd (not_fine (sym e))
+trailed_apart None (Some t) e = absurd (not_fine e)
+trailed_apart None None e = refl
 
 -- what was reached and what is wanted are not the same
 abbrev is_there : {A : Type 0} → Tail.Reached A → Type 0
@@ -249,101 +280,80 @@ wanted_eq : {A : Type 0} {u v : ℕ} → ◌≡◌ {A = Tail.Reached A} (wanted 
 wanted_eq e = cc
 
 reached_apart : (x y : Reached) → reached_as x ≡ reached_as y → x ≡ y
-reached_apart (Reached-as-Found t) (Reached-as-Found u) e =
-    let s = there_eq (fine_eq e) in
-    λ i.
-    Reached-as-Found
-    (record {
-      edition =
-          record { number = (s i).edition.number; wide = (s i).edition.length_bytes; most = (s i).edition.most };
-      place = (s i).place;
-      entries = (s i).entries;
-    })
-reached_apart (Reached-as-Found t) Reached-as-Wrong e = absurd (not_fine (sym e))
-reached_apart (Reached-as-Found t) (Wanted w) e = absurd (not_there (sym (fine_eq e)))
-reached_apart Reached-as-Wrong (Reached-as-Found t) e = absurd (not_fine e)
-reached_apart Reached-as-Wrong Reached-as-Wrong e = refl
-reached_apart Reached-as-Wrong (Wanted w) e = absurd (not_fine e)
-reached_apart (Wanted w) (Reached-as-Found t) e = absurd (not_there (fine_eq e))
-reached_apart (Wanted w) Reached-as-Wrong e = absurd (not_fine (sym e))
+reached_apart (Found t) (Found u) e = ap Found (trailer_apart t u (there_eq (fine_eq e)))
+reached_apart (Found t) Wrong e = absurd (not_fine (sym e))
+reached_apart (Found t) (Wanted w) e = absurd (not_there (sym (fine_eq e)))
+reached_apart Wrong (Found t) e = absurd (not_fine e)
+reached_apart Wrong Wrong e = refl
+reached_apart Wrong (Wanted w) e = absurd (not_fine e)
+reached_apart (Wanted w) (Found t) e = absurd (not_there (fine_eq e))
+reached_apart (Wanted w) Wrong e = absurd (not_fine (sym e))
 reached_apart (Wanted w) (Wanted v) e = ap Wanted (wanted_eq (fine_eq e))
 
-reaching_apart : (x y : Reaching) → reaching_as x ≡ reaching_as y → x ≡ y
-reaching_apart (Reaching-as-At p) (Reaching-as-At q) e =
-    let s = there_eq (fine_eq e) in λ i. Reaching-as-At (record { start = (s i).start; length = (s i).size })
-reaching_apart (Reaching-as-At p) (Reaching-as-Wanted w) e = absurd (not_there (sym (fine_eq e)))
-reaching_apart (Reaching-as-At p) (Reaching-as-Refused r) e = absurd (not_fine (sym e))
-reaching_apart (Reaching-as-Wanted w) (Reaching-as-At q) e = absurd (not_there (fine_eq e))
-reaching_apart (Reaching-as-Wanted w) (Reaching-as-Wanted v) e = ap Reaching-as-Wanted (wanted_eq (fine_eq e))
-reaching_apart (Reaching-as-Wanted w) (Reaching-as-Refused r) e = absurd (not_fine (sym e))
-reaching_apart (Reaching-as-Refused r) (Reaching-as-At q) e = absurd (not_fine e)
-reaching_apart (Reaching-as-Refused r) (Reaching-as-Wanted w) e = absurd (not_fine e)
-reaching_apart (Reaching-as-Refused r) (Reaching-as-Refused q) e = ap Reaching-as-Refused (same_refusal r q e)
+placed_apart : (p q : Placed) → placed_as p ≡ placed_as q → p ≡ q
+placed_apart p q s = λ i. record { start = (s i).start; length = (s i).size }
 
-asked_apart : (x y : Asked) → asked_as x ≡ asked_as y → x ≡ y
-asked_apart (At p) (At q) e = let s = fine_eq e in λ i. At (record { start = (s i).start; length = (s i).size })
-asked_apart (At p) (Asked-as-Refused r) e = absurd (not_fine (sym e))
-asked_apart (Asked-as-Refused r) (At q) e = absurd (not_fine e)
-asked_apart (Asked-as-Refused r) (Asked-as-Refused q) e = ap Asked-as-Refused (same_refusal r q e)
+asked_apart : (x y : Result Placed Refusal) → asked_as x ≡ asked_as y → x ≡ y
+asked_apart x y e = said_apart placed_as placed_apart x y e
 
-command_apart : (x y : Commanded) → command_as x ≡ command_as y → x ≡ y
-command_apart (Command-as-Is c) (Command-as-Is d) e = ap Command-as-Is (same_name c d (fine_eq e))
-command_apart (Command-as-Is c) (Command-as-Refused r) e = absurd (not_fine (sym e))
-command_apart (Command-as-Refused r) (Command-as-Is d) e = absurd (not_fine e)
-command_apart (Command-as-Refused r) (Command-as-Refused q) e = ap Command-as-Refused (same_refusal r q e)
+-- Where a message stands, or what is wanted.
+reached_of_apart : (x y : Reaching) → reached_of x ≡ reached_of y → x ≡ y
+reached_of_apart (Reaching.At p) (Reaching.At q) e = ap Reaching.At (placed_apart p q (there_eq e))
+reached_of_apart (Reaching.At p) (Reaching.Wanted w) e = absurd (not_there (sym e))
+reached_of_apart (Reaching.Wanted w) (Reaching.At q) e = absurd (not_there e)
+reached_of_apart (Reaching.Wanted w) (Reaching.Wanted v) e = ap Reaching.Wanted (wanted_eq e)
 
-fielded_apart : (x y : Fielded) → fielded x ≡ fielded y → x ≡ y
-fielded_apart (Fielded-as-Accepted f) (Fielded-as-Accepted g) e =
-    let s = fine_eq e in
-    λ i. Fielded-as-Accepted (record { code = (s i).code; place = (s i).place; first = (s i).first; size = (s i).size; marked = (s i).marked; values = (s i).values })
-fielded_apart (Fielded-as-Accepted f) (Fielded-as-Refused r) e = absurd (not_fine (sym e))
-fielded_apart (Fielded-as-Refused r) (Fielded-as-Accepted g) e = absurd (not_fine e)
-fielded_apart (Fielded-as-Refused r) (Fielded-as-Refused q) e = ap Fielded-as-Refused (same_refusal r q e)
+reaching_apart : (x y : Result Reaching Refusal) → reaching_as x ≡ reaching_as y → x ≡ y
+reaching_apart x y e = said_apart reached_of reached_of_apart x y e
 
-headed_apart : (x y : Headed) → headed x ≡ headed y → x ≡ y
-headed_apart (Headed-as-Accepted f) (Headed-as-Accepted g) e =
-    let s = fine_eq e in
-    λ i. Headed-as-Accepted (record { code = (s i).code; values = (s i).values; marked = (s i).marked; next = (s i).next })
-headed_apart (Headed-as-Accepted f) (Headed-as-Refused r) e = absurd (not_fine (sym e))
-headed_apart (Headed-as-Refused r) (Headed-as-Accepted g) e = absurd (not_fine e)
-headed_apart (Headed-as-Refused r) (Headed-as-Refused q) e = ap Headed-as-Refused (same_refusal r q e)
+-- Why a run stopped: a fault by its number and its place.
+stop_apart : (x y : Stop) → stop_of x ≡ stop_of y → x ≡ y
+stop_apart Stop.AtEnd Stop.AtEnd e = refl
+stop_apart Stop.AtEnd Stop.AtMost e = cc
+stop_apart Stop.AtEnd (Stop.AtFault r) e = cc
+stop_apart Stop.AtMost Stop.AtEnd e = cc
+stop_apart Stop.AtMost Stop.AtMost e = refl
+stop_apart Stop.AtMost (Stop.AtFault r) e = cc
+stop_apart (Stop.AtFault r) Stop.AtEnd e = cc
+stop_apart (Stop.AtFault r) Stop.AtMost e = cc
+stop_apart (Stop.AtFault r) (Stop.AtFault s) e =
+    let number : number_of r.reason ≡ number_of s.reason = cc in
+    let place : r.place ≡ s.place = cc in
+    λ i. Stop.AtFault (record { place = place i; reason = number_apart r.reason s.reason number i })
 
-ordered_apart : (x y : Ordered) → ordered x ≡ ordered y → x ≡ y
-ordered_apart (Granted d) (Granted f) e = ap Granted (fine_eq e)
-ordered_apart (Granted d) (Ordered-as-Refused r) e = absurd (not_fine (sym e))
-ordered_apart (Ordered-as-Refused r) (Granted f) e = absurd (not_fine e)
-ordered_apart (Ordered-as-Refused r) (Ordered-as-Refused q) e = ap Ordered-as-Refused (same_refusal r q e)
+divided_apart : (x y : Divided) → divided_as x ≡ divided_as y → x ≡ y
+divided_apart x y e = λ i. record { count = (e i).count; end = (e i).end; stop = stop_apart x.stop y.stop (λ j. (e j).stop) i }
 
-valued_apart : (x y : Value) → valued x ≡ valued y → x ≡ y
-valued_apart (Is v) (Is w) e = cc
-valued_apart (Is v) (Value-as-Refused r) e = absurd (not_fine (sym e))
-valued_apart (Value-as-Refused r) (Is w) e = absurd (not_fine e)
-valued_apart (Value-as-Refused r) (Value-as-Refused q) e = ap Value-as-Refused (same_refusal r q e)
+report_apart : (x y : Report) → report_as x ≡ report_as y → x ≡ y
+report_apart x y e =
+    λ i. record { length = (e i).bytes; kept = (e i).kept; dropped = (e i).dropped; stop = stop_apart x.stop y.stop (λ j. (e j).stop) i }
 
--- A quantity of a type of its own is told by its number.
-length_apart : (x y : Length) → x.0 ≡ y.0 → x ≡ y
-length_apart x y e = λ i. record { 0 = e i }
+salvaged_apart : (x y : Result Report Refusal) → salvaged_as x ≡ salvaged_as y → x ≡ y
+salvaged_apart x y e = said_apart report_as report_apart x y e
 
-position_apart : (x y : Position) → x.0 ≡ y.0 → x ≡ y
-position_apart x y e = λ i. record { 0 = e i }
+-- What a call says, and the state that it hands back.
+recorded_apart : (x y : Recorded) → Recorder.told_as x ≡ Recorder.told_as y → x ≡ y
+recorded_apart x y e = λ i. record { said = judged_apart x.said y.said (λ j. (e j).said) i; recorder = (e i).recorder }
 
-duration_apart : (x y : Duration) → x.0 ≡ y.0 → x ≡ y
-duration_apart x y e = λ i. record { 0 = e i }
+wrote_apart : (x y : Wrote) → wrote_as x ≡ wrote_as y → x ≡ y
+wrote_apart x y e = λ i. record { said = judged_apart x.said y.said (λ j. (e j).said) i; writer = (e i).writer }
 
-time_apart : (x y : Time) → x.0 ≡ y.0 → x ≡ y
-time_apart x y e = λ i. record { 0 = e i }
+took_apart : (x y : Taken) → took_as x ≡ took_as y → x ≡ y
+took_apart x y e = λ i. record { said = judged_apart x.said y.said (λ j. (e j).said) i; book = (e i).book }
 
-angle_apart : (x y : Angle) → x.0 ≡ y.0 → x ≡ y
-angle_apart x y e = λ i. record { 0 = e i }
+mustered_apart : (x y : Mustered) → mustered_as x ≡ mustered_as y → x ≡ y
+mustered_apart x y e =
+    λ i. record { said = judged_apart x.said y.said (λ j. (e j).said) i; ledger = (e i).ledger; book = (e i).book }
 
-direction_apart : (x y : Direction) → x.0 ≡ y.0 → x ≡ y
-direction_apart x y e = λ i. record { 0 = e i }
+reckoned_apart : (x y : Reckoned) → comes_as x ≡ comes_as y → x ≡ y
+reckoned_apart x y e =
+    λ i. record { said = judged_apart x.said y.said (λ j. (e j).said) i; refused = (e i).refused; ledger = (e i).ledger }
 
-temperature_apart : (x y : Temperature) → x.0 ≡ y.0 → x ≡ y
-temperature_apart x y e = λ i. record { 0 = e i }
+ordered_apart : (x y : Result Deed Refusal) → ordered x ≡ ordered y → x ≡ y
+ordered_apart x y e = said_apart (λ d. d) (λ d f q. q) x y e
 
-absolute_temperature_apart : (x y : AbsoluteTemperature) → x.0 ≡ y.0 → x ≡ y
-absolute_temperature_apart x y e = λ i. record { 0 = e i }
+command_apart : (x y : Result Name Refusal) → command_as x ≡ command_as y → x ≡ y
+command_apart x y e = said_apart Commands.number_of same_name x y e
 
 -- A quantity of the pairs is found again from what is seen of it: by its unit type, and its number.
 again : Answer Pairs.Quantity → Quantity
@@ -373,15 +383,19 @@ seen_apart : (x y : Quantity) → seen x ≡ seen y → x ≡ y
 seen_apart x y e = sym (found_again x) ∙ ap again e ∙ found_again y
 
 -- The calls of crate sim0mq.
-pub sim0mq_refuse_result : Determines sim0mq_refuse.Post (λ κs z e. z)
-sim0mq_refuse_result = determined (λ κs. judged) (λ κs. judged_apart) _ (λ κs a z e p. p)
+pub reason_number_result : Determines reason_number.Post (λ κs z e. z)
+reason_number_result = equated _ (λ κs a z e p. p)
+
+module _ (T : RattleType) (laws : Laws T) where
+  pub sim0mq_refuse_result : Determines (sim0mq_refuse.Post T laws) (λ κs z e. z)
+  sim0mq_refuse_result = equated _ (λ κs a z e p. p)
 
 -- The calls of crate tables.
 pub counts_result : Determines counts.Post (λ κs z e. z)
 counts_result = equated _ (λ κs a z e p. p)
 
 pub marking_result : Determines marking.Post (λ κs z e. z)
-marking_result = equated _ (λ κs a z e p. p)
+marking_result = determined (λ κs. marking_number) (λ κs. marked_apart) _ (λ κs a z e p. p)
 
 pub width_result : Determines width.Post (λ κs z e. z)
 width_result = equated _ (λ κs a z e p. p)
@@ -480,23 +494,23 @@ magic_result = determined (λ κs. judged) (λ κs. judged_apart) _ (λ κs a z 
 
 -- The calls of crate header.
 pub header_result : Determines header.Post (λ κs z e. z)
-header_result = equated _ (λ κs a z e p. p)
+header_result = determined (λ κs. told_as) (λ κs. told_apart) _ (λ κs a z e p. p)
 
 pub id_result : Determines id.Post (λ κs z e. z)
 id_result = determined (λ κs. fielded) (λ κs. fielded_apart) _ (λ κs a z e p. p)
 
 -- The calls of crates front and reading.
 pub opened_result : Determines opened.Post (λ κs z e. z)
-opened_result = equated _ (λ κs a z e p. p)
+opened_result = determined (λ κs. told_as) (λ κs. told_apart) _ (λ κs a z e p. p)
 
 pub read_result : Determines read.Post (λ κs z e. z)
-read_result = equated _ (λ κs a z e p. p.0)
+read_result = determined (λ κs. answer_as) (λ κs. answer_apart) _ (λ κs a z e p. p.0)
 
 pub read_table : Determines read.Post (λ κs z e. e.1.0.now)
 read_table = equated _ (λ κs a z e p. p.1)
 
 pub judge_result : Determines judge.Post (λ κs z e. z)
-judge_result = equated _ (λ κs a z e p. p)
+judge_result = determined (λ κs. answer_as) (λ κs. answer_apart) _ (λ κs a z e p. p)
 
 -- The calls of crate asking.
 pub ask_result : Determines ask.Post (λ κs z e. z)
@@ -552,6 +566,9 @@ index_result = determined (λ κs. trailed_as) (λ κs. trailed_apart) _ (λ κs
 pub index_tail_result : Determines index_tail.Post (λ κs z e. z)
 index_tail_result = determined (λ κs. reached_as) (λ κs. reached_apart) _ (λ κs a z e p. p)
 
+pub trailer_entry_result : Determines trailer_entry.Post (λ κs z e. z)
+trailer_entry_result = equated _ (λ κs a z e p. p.0)
+
 pub recording_open_result : Determines recording_open.Post (λ κs z e. z)
 recording_open_result = determined (λ κs. judged) (λ κs. judged_apart) _ (λ κs a z e p. p)
 
@@ -571,7 +588,7 @@ pub front_length_result : Determines front_length.Post (λ κs z e. z)
 front_length_result = determined (λ κs. judged) (λ κs. judged_apart) _ (λ κs a z e p. p)
 
 pub divide_result : Determines divide.Post (λ κs z e. z)
-divide_result = equated _ (λ κs a z e p. p.0)
+divide_result = determined (λ κs. divided_as) (λ κs. divided_apart) _ (λ κs a z e p. p.0)
 
 pub divide_lengths : Determines divide.Post (λ κs z e. e.1.0.now)
 divide_lengths = equated _ (λ κs a z e p. p.1)
@@ -586,19 +603,19 @@ pub recorder_new_result : Determines recorder_new.Post (λ κs z e. z)
 recorder_new_result = equated _ (λ κs a z e p. p)
 
 pub recorder_add_result : Determines recorder_add.Post (λ κs z e. z)
-recorder_add_result = equated _ (λ κs a z e p. p.0)
+recorder_add_result = determined (λ κs. Recorder.told_as) (λ κs. recorded_apart) _ (λ κs a z e p. p.0)
 
 pub recorder_add_out : Determines recorder_add.Post (λ κs z e. e.1.1.0.now)
 recorder_add_out = equated _ (λ κs a z e p. p.1)
 
 pub recorder_close_result : Determines recorder_close.Post (λ κs z e. z)
-recorder_close_result = equated _ (λ κs a z e p. p.0)
+recorder_close_result = determined (λ κs. Recorder.told_as) (λ κs. recorded_apart) _ (λ κs a z e p. p.0)
 
 pub recorder_close_out : Determines recorder_close.Post (λ κs z e. e.1.0.now)
 recorder_close_out = equated _ (λ κs a z e p. p.1)
 
 pub salvage_result : Determines salvage.Post (λ κs z e. z)
-salvage_result = equated _ (λ κs a z e p. p.0)
+salvage_result = determined (λ κs. salvaged_as) (λ κs. salvaged_apart) _ (λ κs a z e p. p.0)
 
 pub salvage_out : Determines salvage.Post (λ κs z e. e.1.0.now)
 salvage_out = equated _ (λ κs a z e p. p.1)
@@ -624,10 +641,10 @@ pub book_empty_result : Determines book_empty.Post (λ κs z e. z)
 book_empty_result = equated _ (λ κs a z e p. p)
 
 pub take_framed_result : Determines take_framed.Post (λ κs z e. z)
-take_framed_result = equated _ (λ κs a z e p. p)
+take_framed_result = determined (λ κs. took_as) (λ κs. took_apart) _ (λ κs a z e p. p)
 
 pub book_take_result : Determines book_take.Post (λ κs z e. z)
-book_take_result = equated _ (λ κs a z e p. p)
+book_take_result = determined (λ κs. took_as) (λ κs. took_apart) _ (λ κs a z e p. p)
 
 pub book_close_result : Determines book_close.Post (λ κs z e. z)
 book_close_result = equated _ (λ κs a z e p. p)
@@ -640,13 +657,13 @@ pub ledger_empty_result : Determines ledger_empty.Post (λ κs z e. z)
 ledger_empty_result = equated _ (λ κs a z e p. p)
 
 pub muster_framed_result : Determines muster_framed.Post (λ κs z e. z)
-muster_framed_result = equated _ (λ κs a z e p. p)
+muster_framed_result = determined (λ κs. mustered_as) (λ κs. mustered_apart) _ (λ κs a z e p. p)
 
 pub muster_result : Determines muster.Post (λ κs z e. z)
-muster_result = equated _ (λ κs a z e p. p)
+muster_result = determined (λ κs. mustered_as) (λ κs. mustered_apart) _ (λ κs a z e p. p)
 
 pub reckon_result : Determines reckon.Post (λ κs z e. z)
-reckon_result = equated _ (λ κs a z e p. p)
+reckon_result = determined (λ κs. comes_as) (λ κs. reckoned_apart) _ (λ κs a z e p. p)
 
 -- The calls of crate puts.
 pub bits_result : Determines bits.Post (λ κs z e. z)
@@ -674,25 +691,25 @@ write_header_out = equated _ (λ κs a z e p. p.1)
 
 -- The calls of crate writing.
 pub opening_result : Determines opening.Post (λ κs z e. z)
-opening_result = equated _ (λ κs a z e p. p.0)
+opening_result = determined (λ κs. wrote_as) (λ κs. wrote_apart) _ (λ κs a z e p. p.0)
 
 pub opening_out : Determines opening.Post (λ κs z e. e.1.1.1.1.1.0.now)
 opening_out = equated _ (λ κs a z e p. p.1)
 
 pub add_result : Determines add.Post (λ κs z e. z)
-add_result = equated _ (λ κs a z e p. p.0)
+add_result = determined (λ κs. wrote_as) (λ κs. wrote_apart) _ (λ κs a z e p. p.0)
 
 pub add_out : Determines add.Post (λ κs z e. e.1.1.0.now)
 add_out = equated _ (λ κs a z e p. p.1)
 
 pub add_scalar_result : Determines add_scalar.Post (λ κs z e. z)
-add_scalar_result = equated _ (λ κs a z e p. p.0)
+add_scalar_result = determined (λ κs. wrote_as) (λ κs. wrote_apart) _ (λ κs a z e p. p.0)
 
 pub add_scalar_out : Determines add_scalar.Post (λ κs z e. e.1.1.0.now)
 add_scalar_out = equated _ (λ κs a z e p. p.1)
 
 pub close_result : Determines close.Post (λ κs z e. z)
-close_result = equated _ (λ κs a z e p. p)
+close_result = determined (λ κs. wrote_as) (λ κs. wrote_apart) _ (λ κs a z e p. p)
 
 -- The calls of sums.
 pub shown_plus_result : Determines shown_plus.Post (λ κs z e. z)
@@ -701,77 +718,37 @@ shown_plus_result = equated _ (λ κs a z e p. p)
 pub shown_less_result : Determines shown_less.Post (λ κs z e. z)
 shown_less_result = equated _ (λ κs a z e p. p)
 
-pub length_plus_result : Determines length_plus.Post (λ κs z e. z)
-length_plus_result = determined (λ κs z. z.0) (λ κs. length_apart) _ (λ κs a z e p. p)
+-- The sums of sums_quantities, for every type of quantities, which its number tells apart: a law of the trait.
+module _ (Q : RattleType) (laws : Laws Q) (copy : IsCopy Q) (q : Number.Ghosts Q.Denot) (qd : Dict)
+    (clone : Clone.Ghosts Q.Denot) (cloned : Dict) (apart : (x y : Q.Denot) → q.number x ≡ q.number y → x ≡ y) where
+  pub quantity_of_number_result : Determines (quantity_of_number.Post Q laws copy q qd clone cloned) (λ κs z e. z)
+  quantity_of_number_result = determined (λ κs. q.number) (λ κs. apart) _ (λ κs a z e p. p)
 
-pub length_plus_position_result : Determines length_plus_position.Post (λ κs z e. z)
-length_plus_position_result = determined (λ κs z. z.0) (λ κs. position_apart) _ (λ κs a z e p. p)
+  pub quantity_shown_result : Determines (quantity_shown.Post Q laws copy q qd clone cloned) (λ κs z e. z)
+  quantity_shown_result = equated _ (λ κs a z e p. p)
 
-pub length_less_result : Determines length_less.Post (λ κs z e. z)
-length_less_result = determined (λ κs z. z.0) (λ κs. length_apart) _ (λ κs a z e p. p)
+module _ (R A : RattleType) (r_laws : Laws R) (a_laws : Laws A) (r_copy : IsCopy R) (a_copy : IsCopy A)
+    (r : Number.Ghosts R.Denot) (rd : Dict) (r_clone : Clone.Ghosts R.Denot) (r_cloned : Dict)
+    (a : Number.Ghosts A.Denot) (ad : Dict) (a_clone : Clone.Ghosts A.Denot) (a_cloned : Dict)
+    (relates : Relative.Ghosts R.Denot A.Denot) (related : Dict) (absolutes : Absolute.Ghosts A.Denot R.Denot) (absoluted : Dict)
+    (r_apart : (x y : R.Denot) → r.number x ≡ r.number y → x ≡ y) (a_apart : (x y : A.Denot) → a.number x ≡ a.number y → x ≡ y) where
+  pub relative_plus_result : Determines (relative_plus.Post R A r_laws a_laws r_copy a_copy relates related r rd r_clone r_cloned a ad a_clone a_cloned) (λ κs z e. z)
+  relative_plus_result = determined (λ κs. r.number) (λ κs. r_apart) _ (λ κs a z e p. p)
 
-pub position_plus_result : Determines position_plus.Post (λ κs z e. z)
-position_plus_result = determined (λ κs z. z.0) (λ κs. position_apart) _ (λ κs a z e p. p)
+  pub relative_plus_absolute_result : Determines (relative_plus_absolute.Post R A r_laws a_laws r_copy a_copy relates related r rd r_clone r_cloned a ad a_clone a_cloned) (λ κs z e. z)
+  relative_plus_absolute_result = determined (λ κs. a.number) (λ κs. a_apart) _ (λ κs a z e p. p)
 
-pub position_less_result : Determines position_less.Post (λ κs z e. z)
-position_less_result = determined (λ κs z. z.0) (λ κs. position_apart) _ (λ κs a z e p. p)
+  pub relative_less_result : Determines (relative_less.Post R A r_laws a_laws r_copy a_copy relates related r rd r_clone r_cloned a ad a_clone a_cloned) (λ κs z e. z)
+  relative_less_result = determined (λ κs. r.number) (λ κs. r_apart) _ (λ κs a z e p. p)
 
-pub position_less_position_result : Determines position_less_position.Post (λ κs z e. z)
-position_less_position_result = determined (λ κs z. z.0) (λ κs. length_apart) _ (λ κs a z e p. p)
+  pub absolute_plus_result : Determines (absolute_plus.Post A R a_laws r_laws a_copy r_copy absolutes absoluted a ad a_clone a_cloned relates related r rd r_clone r_cloned) (λ κs z e. z)
+  absolute_plus_result = determined (λ κs. a.number) (λ κs. a_apart) _ (λ κs a z e p. p)
 
-pub duration_plus_result : Determines duration_plus.Post (λ κs z e. z)
-duration_plus_result = determined (λ κs z. z.0) (λ κs. duration_apart) _ (λ κs a z e p. p)
+  pub absolute_less_result : Determines (absolute_less.Post A R a_laws r_laws a_copy r_copy absolutes absoluted a ad a_clone a_cloned relates related r rd r_clone r_cloned) (λ κs z e. z)
+  absolute_less_result = determined (λ κs. a.number) (λ κs. a_apart) _ (λ κs a z e p. p)
 
-pub duration_plus_time_result : Determines duration_plus_time.Post (λ κs z e. z)
-duration_plus_time_result = determined (λ κs z. z.0) (λ κs. time_apart) _ (λ κs a z e p. p)
-
-pub duration_less_result : Determines duration_less.Post (λ κs z e. z)
-duration_less_result = determined (λ κs z. z.0) (λ κs. duration_apart) _ (λ κs a z e p. p)
-
-pub time_plus_result : Determines time_plus.Post (λ κs z e. z)
-time_plus_result = determined (λ κs z. z.0) (λ κs. time_apart) _ (λ κs a z e p. p)
-
-pub time_less_result : Determines time_less.Post (λ κs z e. z)
-time_less_result = determined (λ κs z. z.0) (λ κs. time_apart) _ (λ κs a z e p. p)
-
-pub time_less_time_result : Determines time_less_time.Post (λ κs z e. z)
-time_less_time_result = determined (λ κs z. z.0) (λ κs. duration_apart) _ (λ κs a z e p. p)
-
-pub angle_plus_result : Determines angle_plus.Post (λ κs z e. z)
-angle_plus_result = determined (λ κs z. z.0) (λ κs. angle_apart) _ (λ κs a z e p. p)
-
-pub angle_plus_direction_result : Determines angle_plus_direction.Post (λ κs z e. z)
-angle_plus_direction_result = determined (λ κs z. z.0) (λ κs. direction_apart) _ (λ κs a z e p. p)
-
-pub angle_less_result : Determines angle_less.Post (λ κs z e. z)
-angle_less_result = determined (λ κs z. z.0) (λ κs. angle_apart) _ (λ κs a z e p. p)
-
-pub direction_plus_result : Determines direction_plus.Post (λ κs z e. z)
-direction_plus_result = determined (λ κs z. z.0) (λ κs. direction_apart) _ (λ κs a z e p. p)
-
-pub direction_less_result : Determines direction_less.Post (λ κs z e. z)
-direction_less_result = determined (λ κs z. z.0) (λ κs. direction_apart) _ (λ κs a z e p. p)
-
-pub direction_less_direction_result : Determines direction_less_direction.Post (λ κs z e. z)
-direction_less_direction_result = determined (λ κs z. z.0) (λ κs. angle_apart) _ (λ κs a z e p. p)
-
-pub temperature_plus_result : Determines temperature_plus.Post (λ κs z e. z)
-temperature_plus_result = determined (λ κs z. z.0) (λ κs. temperature_apart) _ (λ κs a z e p. p)
-
-pub temperature_plus_absolute_temperature_result : Determines temperature_plus_absolute_temperature.Post (λ κs z e. z)
-temperature_plus_absolute_temperature_result = determined (λ κs z. z.0) (λ κs. absolute_temperature_apart) _ (λ κs a z e p. p)
-
-pub temperature_less_result : Determines temperature_less.Post (λ κs z e. z)
-temperature_less_result = determined (λ κs z. z.0) (λ κs. temperature_apart) _ (λ κs a z e p. p)
-
-pub absolute_temperature_plus_result : Determines absolute_temperature_plus.Post (λ κs z e. z)
-absolute_temperature_plus_result = determined (λ κs z. z.0) (λ κs. absolute_temperature_apart) _ (λ κs a z e p. p)
-
-pub absolute_temperature_less_result : Determines absolute_temperature_less.Post (λ κs z e. z)
-absolute_temperature_less_result = determined (λ κs z. z.0) (λ κs. absolute_temperature_apart) _ (λ κs a z e p. p)
-
-pub absolute_temperature_less_absolute_temperature_result : Determines absolute_temperature_less_absolute_temperature.Post (λ κs z e. z)
-absolute_temperature_less_absolute_temperature_result = determined (λ κs z. z.0) (λ κs. temperature_apart) _ (λ κs a z e p. p)
+  pub absolute_less_absolute_result : Determines (absolute_less_absolute.Post A R a_laws r_laws a_copy r_copy absolutes absoluted a ad a_clone a_cloned relates related r rd r_clone r_cloned) (λ κs z e. z)
+  absolute_less_absolute_result = determined (λ κs. r.number) (λ κs. r_apart) _ (λ κs a z e p. p)
 
 pub quantity_of_result : Determines quantity_of.Post (λ κs z e. z)
 quantity_of_result = determined (λ κs. seen) (λ κs. seen_apart) _ (λ κs a z e p. p)

@@ -1,48 +1,52 @@
 -- How the ledger's judgement answers, case by case: each test of the definition, passed or failed.
 use Prim.Native.Nat.{ℕ, ◌+◌, ◌≤◌, ◌<◌}
-use mathlib.Core.Path.{◌≡◌, refl, sym, ap, ◌∙◌, subst}
-use mathlib.Core.Bool.{true, false, ◌||◌}
+use mathlib.Core.Path.{◌≡◌, refl, sym, ap, ◌∙◌}
+use mathlib.Core.Bool.{Bool, true, false, ◌&&◌}
 use mathlib.Core.List.{List}
-use lib.ListN.{length, drop}
+use native.Mathlib.Omega.{arith}
+use lib.ListN.{length, take, drop, length-drop}
 use lib.Dec.{eqb}
-use lib.Seq.{get_or-set_other}
-use borrow.Author.Tests.{lt-ltb, le-ltb, eq-eqb, ne_eqb, ltb-true}
+use lib.Seq.{length-take-le}
+use borrow.Author.Tests.{lt-ltb, le-ltb, eq-eqb, ne_eqb, eqb-true, eqb-false}
+use Rattle.std.specs.Str.{bytes_eq}
+use Rattle.std.proofs.lemmas.Bool.{false_from_ne_true}
+use Rattle.std.proofs.lemmas.Slice.Eq.{bytes_eq-Decides}
 use Rattle.sim0mq.specs.Answer.{Answer, fine, refused}
 use Rattle.sim0mq.specs.Field.{Field, outline, after}
 use Rattle.sim0mq.proofs.Answers.{bind_fine}
 use Rattle.sim0mq_numbers.specs.Numbers.{number_at}
 use Rattle.senders_book.specs.Book.{alike}
+use Rattle.senders_book.proofs.IdLaws.{alike_slices}
 use Rattle.senders_book.proofs.StampLaws.{outline_within}
 use Rattle.ledger_decks.specs.declared.Deed.TheVariants.{Joins, Moves, Leaves}
-use Rattle.ledger_decks.specs.Decks.{deck_count, deck_heads, heads_on, one_more, one_less, decks_after}
-use Rattle.ledger_decks.specs.Mustering.{
-  muster_type,
-  is_muster,
-  fields_for,
-  has_room,
-  joining,
-  moving,
-  leaving,
-  deed_of,
-  deed_for,
-  ordering_at,
-  following,
-}
+use Rattle.ledger_decks.specs.Decks.{deck_count, deck_heads, heads_on, decks_after}
+use Rattle.ledger_decks.specs.Mustering.{muster_type, is_muster, fields_for, joining, moving, leaving, deed_of, deed_for, ordering_at, following}
 
--- the type frame
-module _ (s : List ℕ) (f : Field) where
-  pub other_code : (f.code ≡ 9 → ⊥) → false ≡ is_muster s f
+-- the type frame: its code, and its bytes
+module _ (s : List ℕ) (f : Field) (h : f.first + f.size ≤ length s) where
+  -- bytes of another number are others
+  bytes_alike : (n : ℕ) → f.size ≡ n → (b : Bool) → eqb n 5 ≡ b
+      → bytes_eq (take f.size (drop f.first s)) muster_type ≡ (b && alike 5 (drop f.first s) muster_type)
+  bytes_alike n e true q =
+      let five : f.size ≡ 5 = e ∙ eqb-true n 5 q in
+      let long = length-drop f.first s in
+      rw five (alike_slices (drop f.first s) muster_type 5 (omega arith) (omega arith))
+  bytes_alike n e false q =
+      let long = length-drop f.first s in
+      let many = length-take-le f.size (drop f.first s) (omega arith) in
+      let other = eqb-false n 5 q in
+      false_from_ne_true _
+      (λ t.
+      let same = ap (λ (l : List ℕ). length l) ((bytes_eq-Decides (take f.size (drop f.first s)) muster_type).0 t) in
+      other (omega arith))
+
+  pub muster_bytes : f.code ≡ 9 → bytes_eq (take f.size (drop f.first s)) muster_type ≡ is_muster s f
   unfolding is_muster
-  other_code d = rw (ne_eqb _ _ d) refl
+  muster_bytes c = bytes_alike f.size refl (eqb f.size 5) refl ∙ rw (eq-eqb _ _ c) refl
 
-  module _ (c : f.code ≡ 9) where
-    pub other-size : (f.size ≡ 5 → ⊥) → false ≡ is_muster s f
-    unfolding is_muster
-    other-size d = rw (eq-eqb _ _ c, ne_eqb _ _ d) refl
-
-    pub by_bytes : f.size ≡ 5 → alike 5 (drop f.first s) muster_type ≡ is_muster s f
-    unfolding is_muster
-    by_bytes d = rw (eq-eqb _ _ c, eq-eqb _ _ d) refl
+pub other_code : (s : List ℕ) (f : Field) → (f.code ≡ 9 → ⊥) → eqb f.code 9 ≡ is_muster s f
+unfolding is_muster
+other_code s f d = rw (ne_eqb _ _ d) refl
 
 -- new and delete, of one field
 module _ (ds s : List ℕ) (f : Field) where
@@ -185,10 +189,6 @@ pub fields_two : (x : ℕ) → x ≡ 2 → 2 ≡ fields_for x
 unfolding fields_for
 fields_two x e = rw (eq-eqb x 2 e) refl
 
-pub fields_one : (x : ℕ) → (x ≡ 2 → ⊥) → 1 ≡ fields_for x
-unfolding fields_for
-fields_one x d = rw (ne_eqb x 2 d) refl
-
 -- the field after another
 module _ (s : List ℕ) where
   pub follows_at : (f : Field) → outline s (f.first + f.size) ≡ following s (fine f)
@@ -245,30 +245,7 @@ module _ (ds s : List ℕ) (kind status n : ℕ) (first second : Answer Field) w
           unfolding ordering_at
           order-goes h = rw (e, m, d, ← q, ← z, eq-eqb n w h) refl
 
--- a deed that is done
-module _ (ds : List ℕ) where
-  pub joins_by : (joined : ℕ) → one_more ds joined ≡ decks_after ds (Joins joined)
-  unfolding decks_after
-  joins_by joined = refl
-
-  pub leaves_by : (left : ℕ) → one_less ds left ≡ decks_after ds (Leaves left)
-  unfolding decks_after
-  leaves_by left = refl
-
-  module _ (joined left : ℕ) where
-    pub stays : joined ≡ left → ds ≡ decks_after ds (Moves joined left)
-    unfolding decks_after
-    stays q = rw (eq-eqb joined left q) refl
-
-    module _ (q : joined ≡ left → ⊥) where
-      pub moves-by : one_more (one_less ds left) joined ≡ decks_after ds (Moves joined left)
-      unfolding decks_after
-      moves-by = rw (ne_eqb joined left q) refl
-
-      -- another deck has the room that it had before the head left
-      pub room-still : (between : List ℕ) → between ≡ one_less ds left → (eqb joined left || has_room ds joined) ≡ true
-          → heads_on between joined < deck_heads
-      room-still between e h =
-          let room : heads_on ds joined < deck_heads = ltb-true _ _ (rw (ne_eqb joined left q) at h) in
-          subst (λ (n : ℕ). n < deck_heads)
-          (sym (ap (λ (l : List ℕ). heads_on l joined) e ∙ get_or-set_other ds left joined _ 0 q)) room
+-- a change from a deck to itself alters none
+pub stays : (ds : List ℕ) (joined left : ℕ) → joined ≡ left → ds ≡ decks_after ds (Moves joined left)
+unfolding decks_after
+stays ds joined left q = rw (eq-eqb joined left q) refl

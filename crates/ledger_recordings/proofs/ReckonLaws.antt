@@ -5,13 +5,11 @@ use mathlib.Core.Path.{◌≡◌, refl, ap, sym, ◌∙◌}
 use mathlib.Core.List.{List, [], ◌∷◌}
 use native.Mathlib.Omega.{arith}
 use native.Mathlib.Numerals.{add-one}
-use lib.ListN.{length, take, drop, get_or, drop_of_length-le, length-append}
+use lib.ListN.{length, take, drop, drop_of_length-le, length-append}
 use lib.Seq.{drop-cons}
 use Rattle.sim0mq.specs.Answer.{Answer, fine, refused, ◌>>=◌}
 use Rattle.sim0mq.specs.Message.{no_table, Reading}
-use Rattle.sim0mq.specs.declared.Judged.TheVariants.{Accepted, Refused}
-use Rattle.sim0mq.specs.declared.Refusal.{Refusal}
-use Rattle.sim0mq.proofs.Answers.{not_fine, guarded, bind_fine}
+use Rattle.sim0mq.proofs.Answers.{not_fine, fine_eq, guarded, bind_fine}
 use Rattle.dividing.specs.Run.{stretches, total}
 use Rattle.dividing.proofs.RunLaws.{stretches_many}
 use Rattle.recordings_format.specs.Judge.{Index, index, stretch, stretches_from, roomy, opening}
@@ -26,9 +24,9 @@ use Rattle.ledger_decks.specs.declared.Deed.{Deed}
 use Rattle.ledger_decks.specs.declared.Ledger.{Ledger}
 use Rattle.ledger_decks.specs.Mustering.{Order, mustering, decks_mustered, book_mustered}
 use Rattle.ledger_decks.specs.History.{Point, start, after_calls, next, applied_by, point_after}
-use Rattle.ledger_recordings.specs.declared.Reckoned.{Reckoned}
-use Rattle.ledger_recordings.specs.declared.Turn.{Turn}
-use Rattle.ledger_recordings.specs.Reckoning.{mustered, reckoning_of, reckoning, reckoned_as, applied_as, turned}
+use Rattle.ledger.specs.Ledger.{MusteredAs, after_mustering}
+use Rattle.recordings_index.specs.declared.Placed.{Placed}
+use Rattle.ledger_recordings.specs.Reckoning.{mustered, reckoning_of, reckoning, Comes, reckoned_as, applied_as, turned}
 
 -- opening finds what the index states
 opening_index : (s : List ℕ) (i : Index) → opening no_table s ≡ fine i → index s ≡ fine i
@@ -57,25 +55,32 @@ pub applied_one : (o : Answer Order) → applied_as o ≤ 1
 applied_one (fine o) = omega arith
 applied_one (refused k p) = omega arith
 
+-- ledger and book after mustering
+mustered_decks : (l : Ledger) (b : Book) (o : Answer Order) → decks_mustered l.heads o ≡ (after_mustering l b o).ledger.heads
+mustered_decks l b (fine o) = refl
+mustered_decks l b (refused k p) = refl
+
+mustered_book : (l : Ledger) (b : Book) (o : Answer Order) → book_mustered b.senders o ≡ (after_mustering l b o).book.senders
+mustered_book l b (fine o) = refl
+mustered_book l b (refused k p) = refl
+
 -- the loop over the messages
-pub record Reckons (s : List ℕ) (t : Trailer) (k at applied : ℕ) (l : Ledger) (b : Book) : Type 0 where
+pub record Reckons (s : List ℕ) (t : Trailer) (k applied : ℕ) (l : Ledger) (b : Book) : Type 0 where
   pub judging : Judging s t k
-  pub place : at ≡ total (take k (lengths_in (index s)))
   pub point : Point
   pub decks : point.decks ≡ l.heads
   pub book : point.book ≡ b.senders
   pub deeds : length point.applied ≡ applied
   pub few : applied ≤ k
   pub same : mustered (start empty_book) (stretches s 0 (lengths_in (index s)))
-      ≡ mustered point (stretches s at (drop k (lengths_in (index s))))
+      ≡ mustered point (stretches s (total (take k (lengths_in (index s)))) (drop k (lengths_in (index s))))
 
 module _ {s : List ℕ} {t : Trailer} (h : Stated s t) where
-  pub reckons_start : (l : Ledger) (b : Book) → l.heads ≡ (start empty_book).decks → b.senders ≡ empty_book → Reckons s t 0 0 0 l b
+  pub reckons_start : (l : Ledger) (b : Book) → l.heads ≡ (start empty_book).decks → b.senders ≡ empty_book → Reckons s t 0 0 l b
   unfolding total
   reckons_start l b e f =
       record {
         judging = judging_start h;
-        place = refl;
         point = start empty_book;
         decks = sym e;
         book = sym f;
@@ -87,13 +92,13 @@ module _ {s : List ℕ} {t : Trailer} (h : Stated s t) where
   many : length (lengths_in (index s)) ≡ t.entries
   many = ap length (stated_lengths h) ∙ stated_many h
 
-  module _ {k at applied : ℕ} {l : Ledger} {b : Book} (u : Reckons s t k at applied l b) where
+  module _ {k applied : ℕ} {l : Ledger} {b : Book} (u : Reckons s t k applied l b) where
     abbrev lengths : List ℕ
     lengths = lengths_in (index s)
 
     -- all are mustered
     pub reckons-end : t.entries ≤ k
-        → ◌≡◌ {A = Reckoned} (record { said = Accepted applied; refused = k - applied; ledger = l }) (reckoned_as (reckoning s))
+        → ◌≡◌ {A = Comes} (record { said = fine applied; refused = t.entries - applied; ledger = l }) (reckoned_as (reckoning s))
     unfolding reckoning stretches after_calls
     reckons-end e = go (opening no_table s) refl (judging-end h u.judging e)
       where
@@ -101,101 +106,96 @@ module _ {s : List ℕ} {t : Trailer} (h : Stated s t) where
         none = drop_of_length-le lengths {i = k} (let n = many in omega arith)
 
         whole : mustered (start empty_book) (stretches s 0 lengths) ≡ u.point
-        whole = u.same ∙ ap (λ (ns : List ℕ). mustered u.point (stretches s at ns)) none
+        whole =
+            u.same
+            ∙ ap (λ (ns : List ℕ). mustered u.point (stretches s (total (take k lengths)) ns)) none
 
-        long : length (stretches s 0 lengths) ≡ k
-        long = let few = u.judging.few in let n = many in stretches_many s 0 lengths ∙ omega arith
+        long : length (stretches s 0 lengths) ≡ t.entries
+        long = stretches_many s 0 lengths ∙ many
 
         go : (a : Answer Index) → opening no_table s ≡ a → fine k ≡ count_of a
-            → ◌≡◌ {A = Reckoned} (record { said = Accepted applied; refused = k - applied; ledger = l }) (reckoned_as (reckoning s))
+            → ◌≡◌ {A = Comes} (record { said = fine applied; refused = t.entries - applied; ledger = l }) (reckoned_as (reckoning s))
         go (refused j p) q c = absurd (not_fine (sym c))
         go (fine i) q c =
             let stated : lengths ≡ i.lengths = ap lengths_in (opening_index s i q) in
             let p = sym whole in
             let deeds = sym u.deeds in
-            let bytes = sym long in
+            let entries = sym long in
             let decks = sym u.decks in
             (λ j.
             record {
-              said = Accepted (deeds j);
-              refused = bytes j - deeds j;
+              said = fine (deeds j);
+              refused = entries j - deeds j;
               ledger = record { heads = decks j };
             })
             ∙ (λ j.
             record {
-              said = Accepted (length (p j).applied);
+              said = fine (length (p j).applied);
               refused = length (stretches s 0 lengths) - length (p j).applied;
               ledger = record { heads = (p j).decks };
             })
             ∙ ap (λ (ns : List ℕ). reckoned_as (fine (reckoning_of (stretches s 0 ns)))) stated
             ∙ sym (simp q)
 
-    module _ (f : k < t.entries) (n : ℕ) (size : n ≡ get_or lengths k 0) where
-      pub reckons-is : record { start = at; length = n } ≡ entry_in lengths k
-      reckons-is = λ i. record { start = u.place i; length = size i }
-
+    module _ (f : k < t.entries) (m : Placed) (is : m ≡ entry_in lengths k) where
       abbrev message : List ℕ
-      message = take n (drop at s)
+      message = take m.length (drop m.start s)
 
       abbrev order : Answer Order
       order = mustering l.heads b.senders message
 
-      module _ (m : Turn) (e : m ≡ turned l b (stretch t.edition.most s at n) order) where
-        -- it is not accepted
-        pub reckons-stop : (r : Refusal) → m.said ≡ Refused r → reckoned_as (refused r.number r.place) ≡ reckoned_as (reckoning s)
+      abbrev read : Answer Reading
+      read = stretch t.edition.most s m.start m.length
+
+      -- it is not accepted
+      pub reckons-stop : (j p : ℕ) → refused j p ≡ turned l b read order → reckoned_as (refused j p) ≡ reckoned_as (reckoning s)
+      unfolding turned
+      reckons-stop j p e = ap reckoned_as (sym (reckon_refused s j p (judging-refused h u.judging f is (go read e))))
+        where
+          go : (a : Answer Reading) → refused j p ≡ turned l b a order → refused j p ≡ size_of a
+          go (fine x) e = absurd (not_fine e)
+          go (refused i w) e = cc
+
+      -- it is accepted, and applied or passed over
+      module _ (c : MusteredAs) (e : fine c ≡ turned l b read order) where
+        accepted : (r : Reading) × (read ≡ fine r) × (c ≡ after_mustering l b order)
         unfolding turned
-        reckons-stop r q = ap reckoned_as (sym (reckon_refused s r.number r.place (judging-refused h u.judging f reckons-is r told)))
+        accepted = go read refl e
           where
-            go : (a : Answer Reading) → (turned l b a order).said ≡ Refused r → refused r.number r.place ≡ size_of a
-            go (fine x) e = absurd (let z : ◌≡◌ {A = ℕ} 0 1 = cc in omega arith)
-            go (refused j p) e =
-                let z : ◌≡◌ {A = Refusal} (record { number = j; place = p }) r = cc in
-                ap (λ (x : Refusal). refused x.number x.place) (sym z)
+            go : (a : Answer Reading) → read ≡ a → fine c ≡ turned l b a order
+                → (r : Reading) × (read ≡ fine r) × (c ≡ after_mustering l b order)
+            go (fine x) g w = (x, g, fine_eq w)
+            go (refused j p) g w = absurd (not_fine (sym w))
 
-            told : refused r.number r.place ≡ size_of (stretch t.edition.most s at n)
-            told = go (stretch t.edition.most s at n) (ap (λ (x : Turn). x.said) (sym e) ∙ q)
+        pub reckons-said : c.said ≡ (after_mustering l b order).said
+        reckons-said = ap (λ (x : MusteredAs). x.said) accepted.2
 
-        -- it is accepted
-        module _ (one : ℕ) (q : m.said ≡ Accepted one) where
-          read : (r : Reading) × (stretch t.edition.most s at n ≡ fine r)
-          unfolding turned
-          read = go (stretch t.edition.most s at n) refl (ap (λ (x : Turn). x.said) (sym e) ∙ q)
-            where
-              go : (a : Answer Reading) → stretch t.edition.most s at n ≡ a → (turned l b a order).said ≡ Accepted one
-                  → (r : Reading) × (stretch t.edition.most s at n ≡ fine r)
-              go (fine x) g h = (x, g)
-              go (refused j p) g h = absurd (let z : ◌≡◌ {A = ℕ} 0 1 = cc in omega arith)
-
-          came : m ≡ turned l b (fine read.0) order
-          came = e ∙ ap (λ (a : Answer Reading). turned l b a order) read.1
-
-          ones : applied_as order ≡ one
-          unfolding turned
-          ones = let z : ◌≡◌ (Accepted (applied_as order)) (Accepted one) = ap (λ (x : Turn). x.said) (sym came) ∙ q in cc
-
+        module _ (one : ℕ) (counts : one ≡ applied_as order) where
           pub reckons-one : one ≤ 1
-          reckons-one = let a = applied_one order in let b = ones in omega arith
+          reckons-one = let a = applied_one order in omega arith
 
-          pub reckons-turn : Reckons s t (k + 1) (at + n) (applied + one) m.ledger m.book
+          pub reckons-turn : Reckons s t (k + 1) (applied + one) c.ledger c.book
           unfolding stretches after_calls next total turned
           reckons-turn =
               let some : k < length lengths = (let n = many in omega arith) in
               let alike : mustering u.point.decks u.point.book message ≡ order
               = (λ i. mustering (u.decks i) (u.book i) message) in
-              let later : drop k lengths ≡ n ∷ drop (k + 1) lengths
-              = drop-cons lengths k 0 some ∙ (λ i. sym size i ∷ drop (sym (add-one k) i) lengths) in
+              let later : drop k lengths ≡ m.length ∷ drop (k + 1) lengths
+              = drop-cons lengths k 0 some ∙ (λ i. (sym is i).length ∷ drop (sym (add-one k) i) lengths) in
+              let from : total (take k lengths) ≡ m.start = ap (λ (x : Placed). x.start) (sym is) in
+              let until : m.start + m.length ≡ total (take (k + 1) lengths)
+              = (λ i. (is i).start + (is i).length) ∙ sym (rw (add-one k) (total_more lengths k some)) in
               record {
-                judging = judging-turn h u.judging f reckons-is read.0.bytes (sym (ap size_of read.1));
-                place =
-                    (λ i. u.place i + size i) ∙ sym (rw (add-one k) (total_more lengths k some));
+                judging = judging-turn h u.judging f is accepted.0.bytes (sym (ap size_of accepted.1));
                 point = point_after u.point order;
                 decks =
-                    (λ i. decks_mustered (u.decks i) order) ∙ ap (λ (x : Turn). x.ledger.heads) (sym came);
-                book = (λ i. book_mustered (u.book i) order) ∙ ap (λ (x : Turn). x.book.senders) (sym came);
-                deeds = applied_more u.point.applied order ∙ (λ i. u.deeds i + ones i);
+                    (λ i. decks_mustered (u.decks i) order) ∙ mustered_decks l b order ∙ ap (λ (x : MusteredAs). x.ledger.heads) (sym accepted.2);
+                book = (λ i. book_mustered (u.book i) order) ∙ mustered_book l b order ∙ ap (λ (x : MusteredAs). x.book.senders) (sym accepted.2);
+                deeds = applied_more u.point.applied order ∙ (λ i. u.deeds i + sym counts i);
                 few = (let a = reckons-one in let c = u.few in omega arith);
                 same =
                     u.same
-                    ∙ ap (λ (ns : List ℕ). mustered u.point (stretches s at ns)) later
-                    ∙ ap (λ (x : Answer Order). mustered (point_after u.point x) (stretches s (at + n) (drop (k + 1) lengths))) alike;
+                    ∙ (λ i. mustered u.point (stretches s (from i) (later i)))
+                    ∙ ap (λ (x : Answer Order). mustered (point_after u.point x) (stretches s (m.start + m.length) (drop (k + 1) lengths))) alike
+                    ∙ ap (λ (at : ℕ). mustered (point_after u.point order) (stretches s at (drop (k + 1) lengths))) until;
               }

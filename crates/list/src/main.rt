@@ -1,7 +1,6 @@
 // Lists the message on standard input: the lines that document 01 shows under "Examples".
 #![tactic(auto)]
 
-use programs_input::Input;
 use sim0mq::{FIELDS, LIMIT, ROW};
 use std::io;
 
@@ -9,14 +8,11 @@ use std::io;
 // written.
 fn print(rt: &(impl Print + Eprint), message: &[u8]) -> io::Result<()> {
     let mut table = [0u32; FIELDS * ROW];
-    let answer = reading::read(message, &mut table);
-    let said = answer.said;
+    let said = reading::read(message, &mut table).said;
     let mut text = [0u8; 16384];
     let n = programs_listing::listing(said, &table, &mut text);
-    match rt.write_all(&text[..n]) {
-        Ok(()) => Ok(()),
-        Err(_) => rt.eprintln("list: cannot write standard output"),
-    }
+    rt.write_all(&text[..n])
+        .or_else(|_| rt.eprintln("list: cannot write standard output"))
 }
 
 // Lists standard input, of which one byte more than a message may have is read; a line to standard error where it
@@ -24,7 +20,7 @@ fn print(rt: &(impl Print + Eprint), message: &[u8]) -> io::Result<()> {
 fn main(rt: HostRuntime) -> io::Result<()> {
     let mut bytes = [0u8; LIMIT + 1];
     match programs_input::fill(&mut rt.stdin(), &mut bytes) {
-        Input::Bytes(n) => print(&rt, &bytes[0..n]),
-        Input::Failed => rt.eprintln("list: cannot read standard input"),
+        Ok(n) => print(&rt, &bytes[..n]),
+        Err(_) => rt.eprintln("list: cannot read standard input"),
     }
 }

@@ -12,18 +12,19 @@ ghost use Rattle.programs_listing.specs.Put.{buffer, put_all, out_after, bytes_b
 ghost use Rattle.programs_listing.specs.Text.{accepted_text, refused_text, row_text, rows_text, line_text, whole_text};
 
 use programs_pieces::{number, put};
-use reading::{Found, Reading};
+use reading::Found;
 use sim0mq::{ROW, Refusal};
 
 // The text of what reading answered, at the front of `out`: how many bytes it has, and 0 where `out` is too short for
 // it or `table` for its rows. Each line ends with a newline. Where `table` is too short, nothing is put.
-pub fn listing(said: Reading, table: &[u32], out: &mut [u8]) -> usize
+#[tactic(auto, unfolding(sim0mq::specs::Table::row_size))]
+pub fn listing(said: Result<Found, Refusal>, table: &[u32], out: &mut [u8]) -> usize
     ensures counts { IsPrefixLen result out.new }
     ensures answer { result ≡ bytes_written out.old (whole_text said table.now) }
     ensures text { out.new ≡ out_after out.old (whole_text said table.now) }
 {
     match said {
-        Reading::Accepted(found) => {
+        Ok(found) => {
             if table.len() / ROW < found.fields {
                 return 0;
             }
@@ -31,30 +32,25 @@ pub fn listing(said: Reading, table: &[u32], out: &mut [u8]) -> usize
             let end = rows(found.fields, table, out, at);
             whole(end, out)
         }
-        Reading::Refused(_) => first_line(said, out),
+        Err(_) => first_line(said, out),
     }
 }
 
 // The first line of that text alone, at the front of `out`: how many bytes it has, and 0 where `out` is too short for
 // it.
-pub fn first_line(said: Reading, out: &mut [u8]) -> usize
+pub fn first_line(said: Result<Found, Refusal>, out: &mut [u8]) -> usize
     ensures counts { IsPrefixLen result out.new }
     ensures answer { result ≡ bytes_written out.old (line_text said) }
     ensures text { out.new ≡ out_after out.old (line_text said) }
 {
     match said {
-        Reading::Accepted(found) => {
-            let end = accepted(found, out);
-            whole(end, out)
-        }
-        Reading::Refused(refusal) => {
-            let end = refused(refusal, out);
-            whole(end, out)
-        }
+        Ok(found) => whole(accepted(found, out), out),
+        Err(refusal) => whole(refused(refusal, out), out),
     }
 }
 
 // How many bytes of `out` stand before `end`: none where `end` is past it.
+#[tactic(auto, unfolding(crate::specs::Put::bytes_before))]
 fn whole(end: usize, out: &[u8]) -> usize
     ensures prefix_len { IsPrefixLen result out.now }
     ensures value { result ≡ bytes_before out.now end }
@@ -80,7 +76,7 @@ fn refused(refusal: Refusal, out: &mut [u8]) -> usize
     ensures { buffer out.new result ≡ put_all (buffer out.old 0) (refused_text refusal) }
 {
     let mut at = put(b"refused ", out, 0);
-    at = number(refusal.number as u64, out, at);
+    at = number(u64::from(refusal.reason.number()), out, at);
     at = put(b" at ", out, at);
     at = number(refusal.place as u64, out, at);
     put(b"\n", out, at)
@@ -94,10 +90,8 @@ fn rows(fields: usize, table: &[u32], out: &mut [u8], from: usize) -> usize
         ≡ put_all (buffer out.old from) (rows_text table.now fields) }
 {
     let mut at = from;
-    let mut i = 0;
-    while i < fields {
+    for i in 0..fields {
         at = row(i, &table[ROW * i..ROW * i + ROW], out, at);
-        i += 1;
     }
     at
 }
@@ -108,18 +102,9 @@ fn row(i: usize, numbers: &[u32], out: &mut [u8], from: usize) -> usize
         ≡ put_all (buffer out.old from) (row_text i numbers.now) }
 {
     let mut at = number(i as u64, out, from);
-    let mut j = 0;
-    while j < numbers.len() {
+    for x in numbers {
         at = put(b" ", out, at);
-        at = number(wide(numbers[j]), out, at);
-        j += 1;
+        at = number(u64::from(*x), out, at);
     }
     put(b"\n", out, at)
-}
-
-// A table number, as a number to print.
-fn wide(x: u32) -> u64
-    ensures { result ≡ x }
-{
-    x as u64
 }

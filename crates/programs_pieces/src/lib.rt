@@ -10,6 +10,7 @@ ghost use Rattle.programs_pieces.specs.Decimal.{decimal};
 
 // The place after `text`, put from `from` on; one past the end of `out`, which is left as it was, where the text does
 // not fit.
+#[tactic(auto, unfolding(crate::specs::Put::place_after, crate::specs::Put::with_text))]
 pub fn put(text: &[u8], out: &mut [u8], from: usize) -> usize
     ensures value { result ≡ place_after out.old from text.now }
     ensures out_after { out.new ≡ with_text out.old from text.now }
@@ -20,15 +21,12 @@ pub fn put(text: &[u8], out: &mut [u8], from: usize) -> usize
     if out.len() - from < text.len() {
         return out.len() + 1;
     }
-    let mut i = 0;
-    while i < text.len() {
-        out[from + i] = text[i];
-        i += 1;
-    }
+    out[from..from + text.len()].copy_from_slice(text);
     from + text.len()
 }
 
 // The place after n's decimal digits, put from `from` on.
+#[tactic(auto, using(crate::proofs::DecimalCases::decimal_eq))]
 pub fn number(n: u64, out: &mut [u8], from: usize) -> usize
     ensures value { result ≡ place_after out.old from (decimal n) }
     ensures out_after { out.new ≡ with_text out.old from (decimal n) }

@@ -23,11 +23,10 @@ use Rattle.reading_payload.specs.Kept.{kept_of}
 use Rattle.reading_payload.proofs.PayloadCases.{at-stopped, at-taken}
 use Rattle.reading_payload.proofs.KeptLaws.{payload_many, kept_rows}
 use Rattle.sim0mq_numbers.specs.Numbers.{Below}
-use Rattle.sim0mq.specs.declared.Judged.{Judged}
-use Rattle.sim0mq.specs.declared.Judged.TheVariants.{Accepted as Judged-as-Accepted, Refused as Judged-as-Refused}
+use Rattle.std.specs.Prelude.{Result, Ok, Err}
+use Rattle.sim0mq.specs.declared.Refusal.{Refusal}
 use Rattle.reading_header.specs.declared.Frame.{Frame}
 use Rattle.reading_header.specs.Frames.{framed}
-use Rattle.reading.specs.declared.Reading.TheVariants.{Accepted}
 use Rattle.reading.specs.Rows.{rows_after, filled, Fillable}
 use Rattle.reading_front.specs.Front.{front_of}
 use Rattle.reading_front.proofs.FrontCases.{reading_closed, open-parts, open-within, open-reading, open-refused, open-accepted}
@@ -44,9 +43,9 @@ steps_moved b [] = refl
 steps_moved b (f ∷ fs) = ap (λ (k : ℕ). 1 + f.marked + k) (steps_moved b fs)
 
 -- no more steps than bytes, of which there are no more than the limit
-pub below_most : (n : ℕ) (j : Judged) → n ≤ limit → Below (n + 1) j → Below (limit + 1) j
-below_most n (Judged-as-Accepted k) h b = omega arith
-below_most n (Judged-as-Refused r) h b = tt
+pub below_most : (n : ℕ) (j : Result ℕ Refusal) → n ≤ limit → Below (n + 1) j → Below (limit + 1) j
+below_most n (Ok k) h b = omega arith
+below_most n (Err r) h b = tt
 
 -- where what stands before the payload is refused
 module _ (lent : M.Lent) (s : List ℕ) where
@@ -83,7 +82,7 @@ module _ (lent : M.Lent) (s : List ℕ) where
               let many : n ≡ length (map (moved h.next) r.0) = sym (length-map r.0 (moved h.next) ∙ payload_many (drop next s) n r.0 r.1) in
               let counted : 8 + k ≡ steps_of (reading_of s h r.0) = counts r.0 k r.3 in
               ap (answer_of (length s) frames n) e
-              ∙ (λ i. record { said = Accepted (record { length = length s; fields = many i; steps = counted i }); frames = f i })
+              ∙ (λ i. record { said = fine (record { length = length s; fields = many i; steps = counted i }); frames = f i })
               ∙ sym (ap answered r.2)
 
       pub open-table : (t : List ℕ) → filled s next n t ≡ table_after t (reading lent s)

@@ -5,9 +5,9 @@ ghost use Rattle.std.specs.Prelude.{◌≡◌};
 ghost use Rattle.sim0mq.specs.Field.{outline as outline_of};
 ghost use Rattle.reading_fields.specs.Items.{fielded};
 
-use reading_heads::{Headed, head};
+use reading_heads::head;
 use reading_values::size;
-use sim0mq::{Judged, Refusal};
+use sim0mq::Refusal;
 use sim0mq_marks::marks;
 
 // What is known of a field: its code, the places of its code byte and of its first value byte, the number of its value
@@ -22,31 +22,19 @@ pub struct Field {
     pub values: usize,
 }
 
-#[derive(Clone, Copy)]
-pub enum Fielded {
-    Accepted(Field),
-    Refused(Refusal),
-}
-
 // The outline of the field at `at`: all but its Booleans is judged.
-pub fn outline(s: &[u8], at: usize) -> Fielded
+pub fn outline(s: &[u8], at: usize) -> Result<Field, Refusal>
     ensures { fielded result ≡ outline_of s.now at }
 {
-    match head(s, at) {
-        Headed::Refused(r) => Fielded::Refused(r),
-        Headed::Accepted(h) => match marks(s, h.marked, h.next) {
-            Judged::Refused(r) => Fielded::Refused(r),
-            Judged::Accepted(first) => match size(s, h.code, h.values, first) {
-                Judged::Refused(r) => Fielded::Refused(r),
-                Judged::Accepted(bytes) => Fielded::Accepted(Field {
-                    code: h.code,
-                    place: at,
-                    first,
-                    size: bytes,
-                    marked: h.marked,
-                    values: h.values,
-                }),
-            },
-        },
-    }
+    let h = head(s, at)?;
+    let first = marks(s, h.marked, h.next)?;
+    let size = size(s, h.code, h.values, first)?;
+    Ok(Field {
+        code: h.code,
+        place: at,
+        first,
+        size,
+        marked: h.marked,
+        values: h.values,
+    })
 }

@@ -1,6 +1,6 @@
 -- What stands before the payload, case by case: the message's length, its header, and the table's room.
 use Prim.Native.Nat.{ℕ, ◌/◌, ◌≤◌, ◌<◌}
-use mathlib.Core.Path.{◌≡◌, refl, ap, ◌∙◌, subst}
+use mathlib.Core.Path.{◌≡◌, refl, ap, sym, ◌∙◌, subst}
 use mathlib.Core.Bool.{Bool, true, false}
 use mathlib.Core.List.{List, map}
 use native.Mathlib.Omega.{arith}
@@ -16,16 +16,14 @@ use Rattle.sim0mq.specs.Table.{row_size}
 use Rattle.sim0mq.specs.Header.{Header, most_fields, fields_taken, header}
 use Rattle.sim0mq.specs.Message as M
 use Rattle.sim0mq.specs.Message.{limit, enough, reading_of, message_rest, message, reading}
-use Rattle.sim0mq.proofs.Answers.{guarded, bind_fine, fine_eq}
+use Rattle.sim0mq.proofs.Answers.{guarded, bind_fine, fine_eq, not_fine}
 use Rattle.sim0mq.proofs.HeaderLaws.{header_sound}
 use Rattle.sim0mq.proofs.Refusals.{header_within}
 use Rattle.reading_values.proofs.ValueCases.{room_test}
 use Rattle.reading_payload.specs.Parts.{payload_steps}
 use Rattle.reading_payload.proofs.PayloadCases.{at-stopped, at-taken}
-use Rattle.sim0mq.specs.declared.Refusal.{Refusal}
 use Rattle.reading_header.specs.declared.Frame.{Frame}
 use Rattle.reading_header.specs.declared.End.{End}
-use Rattle.reading_header.specs.declared.Said.TheVariants.{Accepted as Said-as-Accepted, Refused as Said-as-Refused}
 use Rattle.reading_header.specs.Frames.{framed, told}
 use Rattle.reading_front.specs.Front.{front_of}
 
@@ -40,18 +38,16 @@ enough_table r n = room_test n row_size r row_size refl (lit< tt) ∙ ap (λ (k 
 
 -- what a header's answer says
 module _ (frames : List Frame) where
-  pub told_refused : (a : S.Answer Header) (k p : ℕ) → (told frames a).said ≡ Said-as-Refused (record { number = k; place = p }) → a ≡ refused k p
-  told_refused (fine h) k p e = absurd (let z : ◌≡◌ {A = ℕ} 0 1 = cc in omega arith)
-  told_refused (refused r w) k p e =
-      let same : ◌≡◌ {A = Refusal} (record { number = r; place = w }) (record { number = k; place = p }) = cc in
-      ap (λ (x : Refusal). refused x.number x.place) same
+  pub told_refused : (a : S.Answer Header) (k p : ℕ) → (told frames a).said ≡ refused k p → a ≡ refused k p
+  told_refused (fine h) k p e = absurd (not_fine (sym e))
+  told_refused (refused r w) k p e = cc
 
-  pub told_accepted : (a : S.Answer Header) (n e : ℕ) → (told frames a).said ≡ Said-as-Accepted (record { fields = n; next = e })
+  pub told_accepted : (a : S.Answer Header) (n e : ℕ) → (told frames a).said ≡ fine (record { fields = n; next = e })
       → (h : Header) × (a ≡ fine h) × (h.fields ≡ n) × (h.next ≡ e) × ((told frames a).frames ≡ map framed h.frames)
   told_accepted (fine h) n e q =
-      let same : ◌≡◌ {A = End} (record { fields = h.fields; next = h.next }) (record { fields = n; next = e }) = cc in
+      let same : ◌≡◌ {A = End} (record { fields = h.fields; next = h.next }) (record { fields = n; next = e }) = fine_eq q in
       (h, refl, ap (λ (x : End). x.fields) same, ap (λ (x : End). x.next) same, refl)
-  told_accepted (refused k p) n e q = absurd (let z : ◌≡◌ {A = ℕ} 0 1 = cc in omega arith)
+  told_accepted (refused k p) n e q = absurd (not_fine q)
 
 -- a header declares no more fields than the most
 header_most : (s : List ℕ) (h : Header) → header s ≡ fine h → h.fields ≤ most_fields

@@ -1,18 +1,16 @@
 -- What stands before the payload, over the definitions of the format.
-use Rattle.std.specs.Prelude.{ℕ, List, length, replicate, leb}
+use Rattle.std.specs.Prelude.{ℕ, List, length, replicate, leb, Option, None, Some}
 use Rattle.sim0mq.specs.Answer as S
 use Rattle.sim0mq.specs.Answer.{fine, ◌>>=◌, ◌>>◌, guard}
 use Rattle.sim0mq.specs.Header.{Header, header}
 use Rattle.sim0mq.specs.Message as M
 use Rattle.sim0mq.specs.Message.{limit, enough}
 use Rattle.reading_header.specs.declared.Frame.{Frame}
-use Rattle.reading_front.specs.declared.Lent.{Lent}
-use Rattle.reading_front.specs.declared.Lent.TheVariants.{NoTable, Table}
 
 -- What is lent, as the definitions have it.
-abbrev pub lent_of : Lent → M.Lent
-lent_of NoTable = M.no_table
-lent_of (Table r) = M.table r
+abbrev pub lent_of : Option ℕ → M.Lent
+lent_of None = M.no_table
+lent_of (Some r) = M.table r
 
 -- Eight frames that are none.
 abbrev pub no_frames : List Frame

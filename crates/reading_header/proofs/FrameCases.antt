@@ -5,10 +5,11 @@ use mathlib.Core.Bool.{Bool, true, false, cond}
 use mathlib.Core.List.{List, [], ◌∷◌, ◌++◌, map, map-append}
 use native.Mathlib.Omega.{arith}
 use native.Mathlib.Numerals.{add-one}
-use lib.ListN.{length, get_or, take, drop, set, length-set, drop_of_length-le}
-use lib.Seq.{drop-cons, take_all, take-suc-set}
+use lib.ListN.{length, take, set, length-set}
+use lib.Seq.{take_all, take-suc-set}
 use lib.Dec.{leb, eqb}
-use borrow.Author.Tests.{le-leb, lt-leb, eq-eqb, ne_eqb, lt-ltb, le-ltb}
+use borrow.Author.Tests.{le-leb, lt-leb, eq-eqb, ne_eqb, lt-ltb, le-ltb, eqb-true, eqb-false}
+use Rattle.std.specs.List.{list_any}
 use Rattle.sim0mq.specs.Answer.{Answer, fine, refused, ◌>>=◌, byte, big, not_negative}
 use Rattle.sim0mq.specs.Codes.{code_known, counts_of, width_of, boolean}
 use Rattle.sim0mq.specs.Mark.{marks}
@@ -20,22 +21,18 @@ use Rattle.sim0mq.proofs.Refusals.{field_within}
 use Rattle.reading_header.specs.Frames.{NoBoolean, nth_frame, Declares, declares, declared_number, header_ending, header_from, header_rest, framed, shown}
 use Rattle.reading_header.specs.declared.Frame.{Frame}
 
--- one of these numbers: this one, a later one, or none
-module _ (k : ℕ) (row : List ℕ) (i : ℕ) where
-  here : i < length row → among k (drop i row) ≡ among k (get_or row i 0 ∷ drop (i + 1) row)
-  here h = rw (add-one i, drop-cons row i 0 h)
-
-  pub among_here : i < length row → get_or row i 0 ≡ k → true ≡ among k (drop i row)
-  unfolding among
-  among_here h e = sym (here h ∙ simp (eq-eqb k (get_or row i 0) (sym e)))
-
-  pub among_later : i < length row → (get_or row i 0 ≡ k → ⊥) → among k (drop i row) ≡ among k (drop (i + 1) row)
-  unfolding among
-  among_later h e = here h ∙ simp (ne_eqb k (get_or row i 0) (λ q. e (sym q)))
-
-  pub among_none : length row ≤ i → false ≡ among k (drop i row)
-  unfolding among
-  among_none h = rw (drop_of_length-le row h)
+-- one of these numbers, as a search of the row tells it
+pub among_any : (k : ℕ) (row : List ℕ) → list_any (λ (y : ℕ). eqb y k) row ≡ among k row
+unfolding among
+among_any k [] = refl
+among_any k (x ∷ xs) = simp (turned, among_any k xs)
+  where
+    turned : eqb x k ≡ eqb k x
+    turned = go (eqb k x) refl
+      where
+        go : (b : Bool) → eqb k x ≡ b → eqb x k ≡ eqb k x
+        go true e = eq-eqb x k (sym (eqb-true k x e)) ∙ sym e
+        go false e = ne_eqb x k (λ q. eqb-false k x e (sym q)) ∙ sym e
 
 -- a field whose code is no Boolean's is judged by its outline
 outline_code : (s : List ℕ) (at : ℕ) (f : Field) → outline s at ≡ fine f → f.code ≡ byte s at

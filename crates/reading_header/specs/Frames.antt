@@ -1,17 +1,17 @@
 -- What the header's functions answer, over the definitions of the format.
-use Rattle.std.specs.Prelude.{ℕ, zero, suc, ◌+◌, ◌≡◌, Bool, true, false, cond, ◌&&◌, List, [], ◌∷◌, ◌++◌, map, length, leb, eqb, ltb}
+use Rattle.std.specs.Prelude.{ℕ, zero, suc, ◌+◌, ◌≡◌, Bool, true, false, cond, ◌&&◌, List, [], ◌∷◌, ◌++◌, map, length, leb, eqb, ltb, Result}
 use Rattle.sim0mq.specs.Answer.{Answer, fine, refused, ◌>>=◌, byte, big}
 use Rattle.sim0mq.specs.Codes.{boolean}
 use Rattle.sim0mq.specs.Field.{Field, after}
 use Rattle.sim0mq.specs.Header as H
 use Rattle.sim0mq.specs.Header.{id_codes, number_codes, frame, status, declared, frame_of, among}
 use Rattle.sim0mq.specs.declared.Refusal.{Refusal}
+use Rattle.sim0mq.specs.Views.{number_of, said_as}
 use Rattle.reading_fields.specs.Items.{seen}
 use Rattle.reading_header.specs.declared.Frame.{Frame}
 use Rattle.reading_header.specs.declared.Answer as A
-use Rattle.reading_header.specs.declared.Said.TheVariants.{Accepted, Refused}
-use Rattle.reading_header.specs.declared.Counted.{Counted}
-use Rattle.reading_header.specs.declared.Counted.TheVariants.{Accepted as Counted-as-Accepted, Refused as Counted-as-Refused}
+use Rattle.reading_header.specs.declared.End.{End}
+use Rattle.reading_header.specs.declared.Count.{Count}
 
 -- None of these codes is a Boolean's.
 abbrev pub NoBoolean : List ℕ → Type 0
@@ -57,9 +57,11 @@ header_rest s at = header_from s 6 1 (record { place = 0; code = 9 } ∷ []) at
 
 -- Each case of an answer, as an answer of the definitions; and the whole answer, told by the definition and by the
 -- frames that went in.
-abbrev pub counted : Counted → Answer Declares
-counted (Counted-as-Accepted c) = fine (record { field = seen c.field; number = c.number })
-counted (Counted-as-Refused r) = refused r.number r.place
+abbrev pub declares_as : Count → Declares
+declares_as c = record { field = seen c.field; number = c.number }
+
+abbrev pub counted : Result Count Refusal → Answer Declares
+counted r = said_as declares_as r
 
 abbrev pub framed : H.Frame → Frame
 framed f = record { place = f.place; code = f.code }
@@ -67,10 +69,18 @@ framed f = record { place = f.place; code = f.code }
 abbrev pub shown : Frame → H.Frame
 shown f = record { place = f.place; code = f.code }
 
-abbrev pub told : List Frame → Answer H.Header → A.Answer
-told frames (fine h) = record { said = Accepted (record { fields = h.fields; next = h.next }); frames = map framed h.frames }
-told frames (refused k p) = record { said = Refused (record { number = k; place = p }); frames = frames }
+-- What the header's reader tells, and the frames beside it.
+pub record Told : Type 0 where
+  pub said : Answer End
+  pub frames : List Frame
+
+abbrev pub told_as : A.Answer → Told
+told_as a = record { said = said_as (λ e. e) a.said; frames = a.frames }
+
+abbrev pub told : List Frame → Answer H.Header → Told
+told frames (fine h) = record { said = fine (record { fields = h.fields; next = h.next }); frames = map framed h.frames }
+told frames (refused k p) = record { said = refused k p; frames = frames }
 
 -- A refusal of the code, as an answer of the definitions.
 abbrev pub refused_as : Refusal → Answer H.Header
-refused_as r = refused r.number r.place
+refused_as r = refused (number_of r.reason) r.place

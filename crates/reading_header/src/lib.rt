@@ -2,13 +2,13 @@
 #![tactic(auto)]
 
 ghost use Rattle.std.specs.Prelude.{◌≡◌};
-ghost use Rattle.sim0mq.specs.Header.{id_codes, among as among_of, frame as frame_of, status as status_of, header as header_of};
+ghost use Rattle.sim0mq.specs.Header.{id_codes, frame as frame_of, status as status_of, header as header_of};
 ghost use Rattle.reading_fields.specs.Items.{fielded};
-ghost use Rattle.reading_header.specs.Frames.{NoBoolean, is_text, nth_frame, counted, declared_number, header_rest, refused_as, told};
+ghost use Rattle.reading_header.specs.Frames.{NoBoolean, is_text, nth_frame, counted, declared_number, header_rest, refused_as, told_as, told};
 
-use reading_fields::{Field, Fielded, outline};
+use reading_fields::{Field, outline};
 use reading_magic::magic;
-use sim0mq::{DELETE, FIELDS, Judged, NEW, Refusal};
+use sim0mq::{DELETE, FIELDS, NEW, Reason, Refusal, refuse};
 use sim0mq_numbers::number;
 
 // A frame's place, which is that of its first byte, and its type code.
@@ -25,16 +25,10 @@ pub struct End {
     pub next: usize,
 }
 
-#[derive(Clone, Copy)]
-pub enum Said {
-    Accepted(End),
-    Refused(Refusal),
-}
-
 // What the header says, and the frames beside it: on a refusal they are those that went in.
 #[derive(Clone, Copy)]
 pub struct Answer {
-    pub said: Said,
+    pub said: Result<End, Refusal>,
     pub frames: [Frame; 8],
 }
 
@@ -46,64 +40,33 @@ const STATUS_CODES: [u8; 1] = [0];
 
 const COUNT_CODES: [u8; 3] = [0, 1, 2];
 
-// Whether k is one of these numbers.
-fn among(k: u8, row: &[u8]) -> bool
-    ensures { result ≡ among_of k row.now }
-{
-    let mut i: usize = 0;
-    while i < row.len() {
-        if row[i] == k {
-            return true;
-        }
-        i += 1;
-    }
-    false
-}
-
 // The frame at `at`, of one of these types.
-fn typed(s: &[u8], codes: &[u8], at: usize) -> Fielded
+fn typed(s: &[u8], codes: &[u8], at: usize) -> Result<Field, Refusal>
     requires { NoBoolean codes.now }
     ensures { fielded result ≡ frame_of s.now codes.now at }
 {
     if s.len() <= at {
-        return Fielded::Refused(Refusal {
-            number: 1,
-            place: s.len(),
-        });
+        return refuse(Reason::BytesEnd, s.len());
     }
-    if among(s[at], codes) {
+    if codes.contains(&s[at]) {
         return outline(s, at);
     }
-    Fielded::Refused(Refusal {
-        number: 4,
-        place: at,
-    })
+    refuse(Reason::FrameType, at)
 }
 
 // Frame 6, at `at`: its value is a status.
-fn status(s: &[u8], at: usize) -> Fielded
+fn status(s: &[u8], at: usize) -> Result<Field, Refusal>
     ensures { fielded result ≡ status_of s.now at }
 {
-    match typed(s, &STATUS_CODES, at) {
-        Fielded::Refused(r) => Fielded::Refused(r),
-        Fielded::Accepted(f) => {
-            let first = f.first;
-            let x = s[first];
-            if x < NEW {
-                return Fielded::Refused(Refusal {
-                    number: 6,
-                    place: first,
-                });
-            }
-            if DELETE < x {
-                return Fielded::Refused(Refusal {
-                    number: 6,
-                    place: first,
-                });
-            }
-            Fielded::Accepted(f)
-        }
+    let f = typed(s, &STATUS_CODES, at)?;
+    let x = s[f.first];
+    if x < NEW {
+        return refuse(Reason::Status, f.first);
     }
+    if DELETE < x {
+        return refuse(Reason::Status, f.first);
+    }
+    Ok(f)
 }
 
 // The declared number of fields, with its frame.
@@ -113,36 +76,20 @@ struct Count {
     number: usize,
 }
 
-#[derive(Clone, Copy)]
-enum Counted {
-    Accepted(Count),
-    Refused(Refusal),
-}
-
 // Frame 7, at `at`: its value, the declared number of fields, is neither negative nor too large.
-fn declared(s: &[u8], at: usize) -> Counted
+fn declared(s: &[u8], at: usize) -> Result<Count, Refusal>
     ensures { counted result ≡ declared_number s.now at }
 {
-    match typed(s, &COUNT_CODES, at) {
-        Fielded::Refused(r) => Counted::Refused(r),
-        Fielded::Accepted(field) => {
-            let first = field.first;
-            if 128 <= s[first] {
-                return Counted::Refused(Refusal {
-                    number: 5,
-                    place: first,
-                });
-            }
-            let number = number(s, first, field.size);
-            if FIELDS < number {
-                return Counted::Refused(Refusal {
-                    number: 7,
-                    place: first,
-                });
-            }
-            Counted::Accepted(Count { field, number })
-        }
+    let field = typed(s, &COUNT_CODES, at)?;
+    let first = field.first;
+    if 128 <= s[first] {
+        return refuse(Reason::NegativeCount, first);
     }
+    let number = number(s, first, field.size);
+    if FIELDS < number {
+        return refuse(Reason::TooManyFields, first);
+    }
+    Ok(Count { field, number })
 }
 
 // Whether a string of bytes that is all there stands at `at`, in bytes so few that its count cannot be negative.
@@ -166,19 +113,19 @@ fn is_text(s: &[u8], at: usize) -> bool
 }
 
 // The id frame at `at`, of any of its types.
-fn any_id(s: &[u8], at: usize) -> Fielded
+fn any_id(s: &[u8], at: usize) -> Result<Field, Refusal>
     ensures { fielded result ≡ frame_of s.now id_codes at }
 {
     typed(s, &ID_CODES, at)
 }
 
 // The id frame at `at`, one of frames 1 to 4. A string of bytes, the usual id, has a way of its own.
-pub fn id(s: &[u8], at: usize) -> Fielded
+pub fn id(s: &[u8], at: usize) -> Result<Field, Refusal>
     ensures { fielded result ≡ frame_of s.now id_codes at }
 {
     if is_text(s, at) {
         let n = number(s, at + 1, 4);
-        return Fielded::Accepted(Field {
+        return Ok(Field {
             code: 9,
             place: at,
             first: at + 5,
@@ -191,7 +138,7 @@ pub fn id(s: &[u8], at: usize) -> Fielded
 }
 
 // Frame k, one of 1 to 6, at `at`.
-fn nth(s: &[u8], k: usize, at: usize) -> Fielded
+fn nth(s: &[u8], k: usize, at: usize) -> Result<Field, Refusal>
     ensures { fielded result ≡ nth_frame s.now k at }
 {
     if k <= 4 {
@@ -205,28 +152,25 @@ fn nth(s: &[u8], k: usize, at: usize) -> Fielded
 
 // A refusal, with the frames that went in.
 fn refused(r: Refusal, frames: [Frame; 8]) -> Answer
-    ensures { result ≡ told frames (refused_as r) }
+    ensures { told_as result ≡ told frames (refused_as r) }
 {
     Answer {
-        said: Said::Refused(r),
-        frames: frames,
+        said: Err(r),
+        frames,
     }
 }
 
 // The frames after frame 0, which ends at `start`.
 fn rest(s: &[u8], frames: [Frame; 8], start: usize) -> Answer
-    ensures { result ≡ told frames (header_rest s.now start) }
+    ensures { told_as result ≡ told frames (header_rest s.now start) }
 {
     let mut fs = frames;
     fs[0] = Frame { place: 0, code: 9 };
     let mut at = start;
-    let mut k: usize = 1;
-    while k < 7 {
+    for k in 1..7 {
         match nth(s, k, at) {
-            Fielded::Refused(r) => {
-                return refused(r, frames);
-            }
-            Fielded::Accepted(f) => {
+            Err(r) => return refused(r, frames),
+            Ok(f) => {
                 fs[k] = Frame {
                     place: f.place,
                     code: f.code,
@@ -234,18 +178,17 @@ fn rest(s: &[u8], frames: [Frame; 8], start: usize) -> Answer
                 at = f.first + f.size;
             }
         }
-        k += 1;
     }
     match declared(s, at) {
-        Counted::Refused(r) => refused(r, frames),
-        Counted::Accepted(c) => {
+        Err(r) => refused(r, frames),
+        Ok(c) => {
             let f = c.field;
             fs[7] = Frame {
                 place: f.place,
                 code: f.code,
             };
             Answer {
-                said: Said::Accepted(End {
+                said: Ok(End {
                     fields: c.number,
                     next: f.first + f.size,
                 }),
@@ -258,10 +201,10 @@ fn rest(s: &[u8], frames: [Frame; 8], start: usize) -> Answer
 // The header at the front of s: the declared number of fields and the header's end, with the frames; or the refusal,
 // with the frames as they were.
 pub fn header(s: &[u8], frames: [Frame; 8]) -> Answer
-    ensures { result ≡ told frames (header_of s.now) }
+    ensures { told_as result ≡ told frames (header_of s.now) }
 {
     match magic(s) {
-        Judged::Refused(r) => refused(r, frames),
-        Judged::Accepted(at) => rest(s, frames, at),
+        Err(r) => refused(r, frames),
+        Ok(at) => rest(s, frames, at),
     }
 }

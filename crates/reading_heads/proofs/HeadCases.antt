@@ -9,24 +9,10 @@ use lib.Dec.{lit<}
 use borrow.Author.Tests.{le-leb, lt-leb}
 use Rattle.sim0mq.specs.Answer.{fine, refused, ◌>>=◌, byte}
 use Rattle.sim0mq.specs.Codes.{code_known, counts_of}
-use Rattle.sim0mq.specs.Field.{count, counts, mark_count, head_of, head_rest, head}
+use Rattle.sim0mq.specs.Field.{count, counts, head_of, head_rest, head}
 use Rattle.reading_heads.specs.Heads.{asked_for}
 
--- marks, and the product of two counts
-pub no_marks : (m columns : ℕ) → m ≡ 0 → 0 ≡ mark_count m columns
-unfolding mark_count
-no_marks m columns e = simp e
-
-pub one_mark : (m columns : ℕ) → m ≡ 1 → 1 ≡ mark_count m columns
-unfolding mark_count
-one_mark m columns e = simp e
-
-pub column_marks : (m columns : ℕ) → (m ≡ 0 → ⊥) → (m ≡ 1 → ⊥) → columns ≡ mark_count m columns
-unfolding mark_count
-column_marks zero columns a b = absurd (a refl)
-column_marks (suc zero) columns a b = absurd (b refl)
-column_marks (suc (suc m)) columns a b = refl
-
+-- the product of two counts
 pub product_fits : (r c : ℕ) → r < 4294967296 → c < 4294967296 → r * c < 18446744073709551616
 product_fits r c h k = lt_of_le_of_lt (product_le r c 4294967295 (omega arith) (omega arith)) (lit< tt)
   where

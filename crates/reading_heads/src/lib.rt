@@ -3,11 +3,13 @@
 
 ghost use Rattle.std.specs.Prelude.{◌≡◌, ◌*◌, ◌<◌, ◌≤◌};
 ghost use Rattle.sim0mq.specs.Field.{mark_count, head as head_of};
-ghost use Rattle.reading_heads.specs.Heads.{headed, asked_for};
+ghost use Rattle.sim0mq.specs.Answer.{fine};
+ghost use Rattle.sim0mq_tables.specs.Markings.{marking_number};
+ghost use Rattle.reading_heads.specs.Heads.{head_in, headed, asked_for};
 
-use sim0mq::{Judged, Refusal};
+use sim0mq::{Reason, Refusal, refuse};
 use sim0mq_numbers::{count, wide};
-use sim0mq_tables::{counts, marking};
+use sim0mq_tables::{Marked, counts, marking};
 
 // A field's code and counts, with the values and the marks that they ask for; and the place after them.
 #[derive(Clone, Copy)]
@@ -18,23 +20,15 @@ pub struct Asked {
     pub next: usize,
 }
 
-#[derive(Clone, Copy)]
-pub enum Headed {
-    Accepted(Asked),
-    Refused(Refusal),
-}
-
-// How many marks a field has whose marking is m.
-fn mark_count(m: usize, columns: usize) -> usize
-    ensures { result ≡ mark_count m columns }
+// How many marks a field of this marking has.
+fn mark_count(marking: Marked, columns: usize) -> usize
+    ensures { result ≡ mark_count (marking_number marking) columns }
 {
-    if m == 0 {
-        return 0;
+    match marking {
+        Marked::None => 0,
+        Marked::One => 1,
+        Marked::PerColumn => columns,
     }
-    if m == 1 {
-        return 1;
-    }
-    columns
 }
 
 // The product of two counts.
@@ -46,51 +40,38 @@ fn product(r: usize, c: usize) -> usize
 }
 
 // What a field of this code asks for whose counts say so many values and columns and end at `next`.
-fn asking(code: usize, values: usize, columns: usize, next: usize) -> Headed
+fn asking(code: usize, values: usize, columns: usize, next: usize) -> Asked
     requires { code ≤ 32 }
-    ensures { headed result ≡ asked_for code values columns next }
+    ensures { fine (head_in result) ≡ asked_for code values columns next }
 {
-    let marked = mark_count(marking(code), columns);
-    Headed::Accepted(Asked {
+    Asked {
         code,
         values,
-        marked,
+        marked: mark_count(marking(code), columns),
         next,
-    })
+    }
 }
 
 // The code and the counts of the field at `at`.
-pub fn head(s: &[u8], at: usize) -> Headed
+pub fn head(s: &[u8], at: usize) -> Result<Asked, Refusal>
     ensures { headed result ≡ head_of s.now at }
 {
     if s.len() <= at {
-        return Headed::Refused(Refusal {
-            number: 1,
-            place: s.len(),
-        });
+        return refuse(Reason::BytesEnd, s.len());
     }
     let code = wide(s[at]);
     if 32 < code {
-        return Headed::Refused(Refusal {
-            number: 9,
-            place: at,
-        });
+        return refuse(Reason::NoSuchCode, at);
     }
     let p = at + 1;
     let k = counts(code);
     if k == 0 {
-        return asking(code, 1, 1, p);
+        return Ok(asking(code, 1, 1, p));
     }
-    match count(s, p) {
-        Judged::Refused(r) => Headed::Refused(r),
-        Judged::Accepted(n) => {
-            if k == 1 {
-                return asking(code, n, 1, p + 4);
-            }
-            match count(s, p + 4) {
-                Judged::Refused(r) => Headed::Refused(r),
-                Judged::Accepted(c) => asking(code, product(n, c), c, p + 8),
-            }
-        }
+    let n = count(s, p)?;
+    if k == 1 {
+        return Ok(asking(code, n, 1, p + 4));
     }
+    let c = count(s, p + 4)?;
+    Ok(asking(code, product(n, c), c, p + 8))
 }

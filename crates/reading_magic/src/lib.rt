@@ -6,7 +6,7 @@ ghost use Rattle.sim0mq.specs.Header.{digit as digit_of, magic as magic_of};
 ghost use Rattle.sim0mq.specs.Views.{judged};
 ghost use Rattle.reading_magic.specs.Magic.{literal_end, edition_end, is_frame0};
 
-use sim0mq::Judged;
+use sim0mq::{Reason, Refusal, refuse};
 use sim0mq_numbers::{number, wide};
 
 // Its bytes: 9 0 0 0 5 S I M, and the digits of the edition, 0 and 1 in ASCII.
@@ -36,75 +36,66 @@ fn is_frame_0(s: &[u8]) -> bool
 }
 
 // Frame 0 before its digits: the place after it.
-fn literal(s: &[u8]) -> Judged
+fn literal(s: &[u8]) -> Result<usize, Refusal>
     ensures { judged result ≡ literal_end s.now }
 {
-    let mut i: usize = 0;
-    while i < 8 {
+    for i in 0..8 {
         if s.len() <= i {
-            return sim0mq::refuse(1, s.len());
+            return refuse(Reason::BytesEnd, s.len());
         }
-        if s[i] == FRAME_0[i] {
-            i += 1;
-        } else {
-            return sim0mq::refuse(2, i);
+        if s[i] != FRAME_0[i] {
+            return refuse(Reason::Frame0, i);
         }
     }
-    Judged::Accepted(8)
+    Ok(8)
 }
 
 // The digit at `at`.
-fn digit(s: &[u8], at: usize) -> Judged
+fn digit(s: &[u8], at: usize) -> Result<usize, Refusal>
     ensures { judged result ≡ digit_of s.now at }
 {
     if s.len() <= at {
-        return sim0mq::refuse(1, s.len());
+        return refuse(Reason::BytesEnd, s.len());
     }
     let d = wide(s[at]);
     if d < 48 {
-        return sim0mq::refuse(2, at);
+        return refuse(Reason::Frame0, at);
     }
     if 57 < d {
-        return sim0mq::refuse(2, at);
+        return refuse(Reason::Frame0, at);
     }
-    Judged::Accepted(d)
+    Ok(d)
 }
 
 // Frame 0, looked at byte by byte: the place after it.
-fn each_byte(s: &[u8]) -> Judged
+fn each_byte(s: &[u8]) -> Result<usize, Refusal>
     ensures { judged result ≡ magic_of s.now }
 {
-    match literal(s) {
-        Judged::Refused(r) => Judged::Refused(r),
-        Judged::Accepted(_) => match digit(s, 8) {
-            Judged::Refused(r) => Judged::Refused(r),
-            Judged::Accepted(a) => match digit(s, 9) {
-                Judged::Refused(r) => Judged::Refused(r),
-                Judged::Accepted(b) => edition(a, b),
-            },
-        },
-    }
+    let _end = literal(s)?;
+    let a = digit(s, 8)?;
+    let b = digit(s, 9)?;
+    edition(a, b)
 }
 
 // Frame 0's end where these are its digits.
-fn edition(a: usize, b: usize) -> Judged
+fn edition(a: usize, b: usize) -> Result<usize, Refusal>
     ensures { judged result ≡ edition_end a b }
 {
     if a != wide(FRAME_0[8]) {
-        return sim0mq::refuse(3, 8);
+        return refuse(Reason::Edition, 8);
     }
     if b != wide(FRAME_0[9]) {
-        return sim0mq::refuse(3, 8);
+        return refuse(Reason::Edition, 8);
     }
-    Judged::Accepted(10)
+    Ok(10)
 }
 
 // Frame 0, of the edition 01: the place after it. Where it is as it should be, a look at three numbers is enough.
-pub fn magic(s: &[u8]) -> Judged
+pub fn magic(s: &[u8]) -> Result<usize, Refusal>
     ensures { judged result ≡ magic_of s.now }
 {
     if is_frame_0(s) {
-        return Judged::Accepted(10);
+        return Ok(10);
     }
     each_byte(s)
 }

@@ -13,10 +13,10 @@ ghost use Rattle.reading_parts.specs.Parts.{rest_steps, part_steps};
 ghost use Rattle.reading_parts.specs.Kept.{Small, kept_one, kept_all, rows_in, kept_rest, kept_part, Keepable, agrees_at, kept_lead};
 
 use reading_fields::Field;
-use reading_heads::{Asked, Headed, head};
+use reading_heads::{Asked, head};
 use reading_runs::{Run, run_at};
 use reading_values::values;
-use sim0mq::{Judged, LIMIT, ROW, Refusal};
+use sim0mq::{LIMIT, ROW, Reason, Refusal, refuse};
 use sim0mq_marks::mark_by;
 use sim0mq_tables::lasts;
 
@@ -110,14 +110,12 @@ fn keep_each(kept: &mut [u32], many: usize, k: usize, i: usize, base: usize, at:
     ensures { kept.new
         ≡ kept_all many k i (map (moved base) (alike_fields run.code run.size run.fields at)) kept.old }
 {
-    let fields = run.fields;
     let step = run.size + 1;
-    let mut j = skipped(k, i, fields);
-    let mut p = at + j * step;
-    while j < fields {
+    let first = skipped(k, i, run.fields);
+    let mut p = at + first * step;
+    for j in first..run.fields {
         keep(kept, many, k, i + j, base, field_at(run, p));
         p += step;
-        j += 1;
     }
 }
 
@@ -174,16 +172,20 @@ pub fn keep_lead(kept: &mut [u32], base: usize, run: Run)
 // one for each field and each mark, and no more than the bytes from there on; or the refusal, with its place in the
 // part. The rows of the fields from field k of them on are kept, as far as there is room, up to the first fault. Fields
 // that are alike are judged together.
-pub fn part_from(s: &[u8], base: usize, from: usize, n: usize, k: usize, kept: &mut [u32]) -> Judged
+pub fn part_from(
+    s: &[u8],
+    base: usize,
+    from: usize,
+    n: usize,
+    k: usize,
+    kept: &mut [u32],
+) -> Result<usize, Refusal>
     ensures answer { (judged result ≡ rest_steps s.now from n)
         × Below (length s.now - from + 1) result }
     ensures kept { kept.new ≡ kept_rest s.now base from n k kept.old }
 {
     if s.len() < from {
-        return Judged::Refused(Refusal {
-            number: 1,
-            place: s.len(),
-        });
+        return refuse(Reason::BytesEnd, s.len());
     }
     let many = rows(base, s.len(), kept.len());
     let last = lasts();
@@ -193,12 +195,9 @@ pub fn part_from(s: &[u8], base: usize, from: usize, n: usize, k: usize, kept: &
     'fields: loop {
         if left == 0 {
             if at < s.len() {
-                break 'fields Judged::Refused(Refusal {
-                    number: 13,
-                    place: at,
-                });
+                break 'fields refuse(Reason::BytesLeft, at);
             }
-            break 'fields Judged::Accepted(steps);
+            break 'fields Ok(steps);
         }
         let run = run_at(s, at, left);
         if 0 < run.fields {
@@ -209,20 +208,18 @@ pub fn part_from(s: &[u8], base: usize, from: usize, n: usize, k: usize, kept: &
             continue 'fields;
         }
         match head(s, at) {
-            Headed::Refused(r) => break 'fields Judged::Refused(r),
-            Headed::Accepted(h) => {
-                let mut marked = h.marked;
+            Err(r) => break 'fields Err(r),
+            Ok(h) => {
                 let mut p = h.next;
-                while 0 < marked {
+                for _ in 0..h.marked {
                     match mark_by(s, p, &last) {
-                        Judged::Refused(of_mark) => break 'fields Judged::Refused(of_mark),
-                        Judged::Accepted(q) => p = q,
+                        Err(of_mark) => break 'fields Err(of_mark),
+                        Ok(q) => p = q,
                     }
-                    marked -= 1;
                 }
                 match values(s, h.code, h.values, p) {
-                    Judged::Refused(of_values) => break 'fields Judged::Refused(of_values),
-                    Judged::Accepted(e) => {
+                    Err(of_values) => break 'fields Err(of_values),
+                    Ok(e) => {
                         keep(kept, many, k, n - left, base, found(h, at, p, e - p));
                         at = e;
                     }
@@ -235,7 +232,7 @@ pub fn part_from(s: &[u8], base: usize, from: usize, n: usize, k: usize, kept: &
 }
 
 // The part s of n fields, which begins at place `base` of its message, in the same way from its front.
-pub fn part(s: &[u8], base: usize, n: usize, k: usize, kept: &mut [u32]) -> Judged
+pub fn part(s: &[u8], base: usize, n: usize, k: usize, kept: &mut [u32]) -> Result<usize, Refusal>
     ensures answer { (judged result ≡ part_steps s.now n) × Below (length s.now + 1) result }
     ensures kept { kept.new ≡ kept_part s.now base n k kept.old }
 {

@@ -1,11 +1,11 @@
 -- How runs of fields are told, case by case, in the words of the code's tests.
-use Prim.Native.Nat.{ℕ, zero, suc, ◌+◌, ◌-◌, ◌*◌, ◌≤◌, ◌<◌}
+use Prim.Native.Nat.{ℕ, zero, suc, ◌+◌, ◌*◌, ◌≤◌, ◌<◌}
 use mathlib.Core.Path.{◌≡◌, refl, sym, ap, ◌∙◌}
 use mathlib.Core.Bool.{Bool, true, false, cond, ◌||◌, or-false, false≢true}
 use mathlib.Core.List.{List}
 use native.Mathlib.Omega.{arith}
 use native.Mathlib.Numerals.{add-one}
-use native.Mathlib.Nat.{add-zero, zero-add, zero-mul, one-mul, suc-mul, not-suc-le-zero}
+use native.Mathlib.Nat.{add-zero, zero-mul, one-mul, suc-mul, not-suc-le-zero}
 use lib.ListN.{length}
 use lib.Dec.{leb, ltb, eqb}
 use borrow.Author.Tests.{le-leb, lt-leb, leb-false, ltb-true, ltb-false, eqb-true, ne_eqb}
@@ -15,24 +15,13 @@ use Rattle.sim0mq.proofs.Rows.{all_below, below_at}
 use Rattle.reading_runs.specs.Runs.{plain_size, stands_at, alike, run_of, sized, run_at}
 use Rattle.reading_runs.specs.declared.Run.{Run}
 
--- the size of a code that is known, and of one past the last
-pub size_told : (k w c : ℕ) → plain_size k ≡ w → c ≡ k → w ≡ plain_size c
-size_told k w c q e = sym (ap plain_size e ∙ q)
-
-pub size_past : (c : ℕ) → 9 ≤ c → 0 ≡ plain_size c
+-- a code past the last has no size
+size_past : (c : ℕ) → 9 ≤ c → 0 ≡ plain_size c
 unfolding plain_size
 size_past c h = simp (lt-leb c 8 (omega arith))
 
 -- whether a field stands at a place
 module _ (s : List ℕ) (c w at : ℕ) where
-  pub stands_short : length s ≤ at + w → stands_at s c w at ≡ false
-  unfolding stands_at
-  stands_short h = simp (le-leb (length s) (at + w) h)
-
-  pub stands_there : at + w < length s → stands_at s c w at ≡ eqb (byte s at) c
-  unfolding stands_at
-  stands_there h = simp (lt-leb (length s) (at + w) h)
-
   pub stands_is : stands_at s c w at ≡ true → (at + w < length s) × (byte s at ≡ c)
   unfolding stands_at
   stands_is e = go (leb (length s) (at + w)) refl e
@@ -55,11 +44,6 @@ module _ (s : List ℕ) (c w at : ℕ) where
   unfolding alike
   alike_stop zero e = refl
   alike_stop (suc n) e = simp e
-
-  pub alike_start : (n : ℕ) → alike s c w n at ≡ 0 + alike s c w (n - 0) at
-  alike_start n =
-      let same : n ≡ n - 0 = omega arith in
-      ap (λ (k : ℕ). alike s c w k at) same ∙ sym (zero-add (alike s c w (n - 0) at))
 
   pub alike_more : (n m : ℕ) → n ≡ m + 1 → stands_at s c w at ≡ true → alike s c w n at ≡ 1 + alike s c w m (at + (w + 1))
   unfolding alike

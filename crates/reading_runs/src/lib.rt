@@ -1,7 +1,7 @@
 // Fields that are alike, which are judged together: of one code, each one value of any bytes, one after the other.
 #![tactic(auto)]
 
-ghost use Rattle.std.specs.Prelude.{◌≡◌, ◌<◌, ◌≤◌, length};
+ghost use Rattle.std.specs.Prelude.{◌≡◌, ◌+◌, ◌<◌, ◌≤◌, length, IsTrue};
 ghost use Rattle.reading_runs.specs.Runs.{plain_size, stands_at, alike, run_of, run_at};
 
 use sim0mq_numbers::wide;
@@ -18,6 +18,7 @@ pub struct Run {
 
 // The bytes of the one value of a field of this code, where they may be any bytes and neither count nor mark stands
 // before them; else 0.
+#[tactic(auto, unfolding(crate::specs::Runs::plain_size, sim0mq::specs::Codes::width_of, sim0mq::specs::Codes::boolean))]
 fn plain_size(code: usize) -> usize
     ensures { result ≡ plain_size code }
 {
@@ -36,14 +37,13 @@ fn plain_size(code: usize) -> usize
 }
 
 // Whether a field of this code and one value of `size` bytes, all there, stands at `at`.
+#[tactic(auto, unfolding(crate::specs::Runs::stands_at))]
 fn stands(s: &[u8], at: usize, code: u8, size: usize) -> bool
     requires { at ≤ length s.now }
-    ensures { result ≡ stands_at s.now code size at }
+    ensures is { result ≡ stands_at s.now code size at }
+    ensures within { IsTrue result → at + size < length s.now }
 {
-    if s.len() - at <= size {
-        return false;
-    }
-    s[at] == code
+    size < s.len() - at && s[at] == code
 }
 
 // The run of these numbers.
@@ -64,15 +64,13 @@ fn each(s: &[u8], at: usize, code: u8, size: usize, n: usize) -> Run
     ensures { result ≡ run_of code size (alike s.now code size n at) at }
 {
     let mut end = at;
-    let mut fields: usize = 0;
-    while fields < n {
+    for fields in 0..n {
         if !stands(s, end, code, size) {
             return told(code, size, fields, end);
         }
         end += size + 1;
-        fields += 1;
     }
-    told(code, size, fields, end)
+    told(code, size, n, end)
 }
 
 // The same, with a way of its own for a field that the next one is not like.
@@ -95,25 +93,15 @@ fn together(s: &[u8], at: usize, code: u8, size: usize, n: usize) -> Run
 pub fn run_at(s: &[u8], at: usize, n: usize) -> Run
     ensures { result ≡ run_at s.now at n }
 {
-    if n == 0 {
-        return told(0, 0, 0, at);
-    }
-    if s.len() <= at {
+    if n == 0 || s.len() <= at {
         return told(0, 0, 0, at);
     }
     let code = s[at];
-    let size = plain_size(wide(code));
-    if size == 1 {
-        return together(s, at, code, 1, n);
+    match plain_size(wide(code)) {
+        1 => together(s, at, code, 1, n),
+        2 => together(s, at, code, 2, n),
+        4 => together(s, at, code, 4, n),
+        8 => together(s, at, code, 8, n),
+        _ => told(0, 0, 0, at),
     }
-    if size == 2 {
-        return together(s, at, code, 2, n);
-    }
-    if size == 4 {
-        return together(s, at, code, 4, n);
-    }
-    if size == 8 {
-        return together(s, at, code, 8, n);
-    }
-    told(0, 0, 0, at)
 }

@@ -6,7 +6,7 @@ ghost use Rattle.sim0mq.specs.Codes.{boolean as boolean_of};
 ghost use Rattle.sim0mq.specs.Views.{judged};
 ghost use Rattle.reading_values.specs.Values.{size_of, size_at, NoneAbove, booleans_end, values_end};
 
-use sim0mq::Judged;
+use sim0mq::{Reason, Refusal, refuse};
 use sim0mq_tables::width;
 
 // Whether n values of w bytes fit into `room` bytes.
@@ -18,26 +18,26 @@ fn fits(n: usize, w: usize, room: usize) -> bool
 }
 
 // The number of bytes of n values of w bytes each, all of which are there from `first` on.
-fn size_of(s: &[u8], w: usize, n: usize, first: usize) -> Judged
+fn size_of(s: &[u8], w: usize, n: usize, first: usize) -> Result<usize, Refusal>
     requires { (0 < w) × (first ≤ length s.now) }
     ensures { judged result ≡ size_of s.now w n first }
 {
     if fits(n, w, s.len() - first) {
-        return Judged::Accepted(n * w);
+        return Ok(n * w);
     }
-    sim0mq::refuse(1, s.len())
+    refuse(Reason::BytesEnd, s.len())
 }
 
 // The number of bytes of n values of this code, all of which are there from `first` on. Each width has a way of its
 // own, so that where the next field begins does not wait for this one's code.
-pub fn size(s: &[u8], code: usize, n: usize, first: usize) -> Judged
+pub fn size(s: &[u8], code: usize, n: usize, first: usize) -> Result<usize, Refusal>
     ensures { judged result ≡ size_at s.now code n first }
 {
     if s.len() < first {
-        return sim0mq::refuse(1, s.len());
+        return refuse(Reason::BytesEnd, s.len());
     }
     if 32 < code {
-        return Judged::Accepted(0);
+        return Ok(0);
     }
     let w = width(code);
     if w == 1 {
@@ -59,69 +59,51 @@ fn largest(s: &[u8], n: usize, at: usize) -> u8
     ensures { NoneAbove s.now n at result }
 {
     let mut most: u8 = 0;
-    let mut i: usize = 0;
-    while i < n {
-        let x = s[at + i];
-        i += 1;
-        if most < x {
-            most = x;
-        }
+    for i in 0..n {
+        most = most.max(s[at + i]);
     }
     most
 }
 
 // The n Boolean bytes from `at` on, byte by byte: the place after them.
-fn each_boolean(s: &[u8], n: usize, at: usize) -> Judged
+fn each_boolean(s: &[u8], n: usize, at: usize) -> Result<usize, Refusal>
     requires { at + n ≤ length s.now }
     ensures { judged result ≡ booleans_end s.now n at }
 {
-    let mut left = n;
-    let mut p = at;
-    while 0 < left {
+    for p in at..at + n {
         if 1 < s[p] {
-            return sim0mq::refuse(10, p);
+            return refuse(Reason::Boolean, p);
         }
-        p += 1;
-        left -= 1;
     }
-    Judged::Accepted(p)
+    Ok(at + n)
 }
 
 // The n Boolean bytes from `at` on: the place after them.
-fn booleans(s: &[u8], n: usize, at: usize) -> Judged
+fn booleans(s: &[u8], n: usize, at: usize) -> Result<usize, Refusal>
     requires { at + n ≤ length s.now }
     ensures { judged result ≡ booleans_end s.now n at }
 {
     if largest(s, n, at) <= 1 {
-        return Judged::Accepted(at + n);
+        return Ok(at + n);
     }
     each_boolean(s, n, at)
 }
 
 // Whether the values of this code are Booleans.
+#[tactic(auto, unfolding(sim0mq::specs::Codes::boolean))]
 fn boolean(code: usize) -> bool
     ensures { result ≡ boolean_of code }
 {
-    if code == 6 {
-        return true;
-    }
-    if code == 17 {
-        return true;
-    }
-    code == 24
+    code == 6 || code == 17 || code == 24
 }
 
 // The n values of this code from `first` on, with Booleans judged in order: the place after them.
-pub fn values(s: &[u8], code: usize, n: usize, first: usize) -> Judged
+pub fn values(s: &[u8], code: usize, n: usize, first: usize) -> Result<usize, Refusal>
     ensures { judged result ≡ values_end s.now code n first }
 {
-    match size(s, code, n, first) {
-        Judged::Refused(r) => Judged::Refused(r),
-        Judged::Accepted(bytes) => {
-            if boolean(code) {
-                return booleans(s, bytes, first);
-            }
-            Judged::Accepted(first + bytes)
-        }
+    let bytes = size(s, code, n, first)?;
+    if boolean(code) {
+        return booleans(s, bytes, first);
     }
+    Ok(first + bytes)
 }

@@ -1,7 +1,7 @@
 -- How opening and asking answer, case by case, in the words of the code's tests: messages are judged one by one, and
 -- what is left to judge is what the whole comes to.
 use Prim.Native.Nat.{ℕ, suc, ◌+◌, ◌*◌, ◌≤◌, ◌<◌, zero-le}
-use mathlib.Core.Path.{◌≡◌, refl, ap, ap₂, sym, ◌∙◌, subst}
+use mathlib.Core.Path.{◌≡◌, refl, ap, sym, ◌∙◌, subst}
 use mathlib.Core.List.{List, []}
 use native.Mathlib.Omega.{arith}
 use native.Mathlib.Numerals.{add-one}
@@ -11,34 +11,31 @@ use borrow.Author.Tests.{lt-leb, lt-ltb, le-ltb}
 use Rattle.sim0mq.specs.Answer.{Answer, fine, refused, ◌>>=◌}
 use Rattle.sim0mq.specs.Message.{no_table, table, Reading}
 use Rattle.sim0mq.specs.Table.{stored}
-use Rattle.sim0mq.specs.declared.Refusal.{Refusal}
 use Rattle.sim0mq.proofs.Answers.{not_fine}
 use Rattle.dividing.specs.Run.{total}
 use Rattle.recordings_format.specs.Judge.{Index, index, stretch, stretches_from, place_size, roomy, opening, places, places_after, placed_in, asking}
 use Rattle.recordings_format.proofs.IndexLaws.{total_more}
 use Rattle.recordings_format.proofs.Promises.{table_is_lent}
-use Rattle.recordings_index.specs.Index.{trailed_as, summed}
+use Rattle.recordings_index.specs.Index.{summed}
 use Rattle.recordings_index.specs.declared.Trailer.{Trailer}
-use Rattle.recordings_index.specs.declared.Trailed.{Trailed}
-use Rattle.recordings_index.specs.declared.Trailed.TheVariants.{Wrong}
 use Rattle.recordings.specs.Recordings.{Stated, lengths_in, entry_in, size_of, count_of}
-use Rattle.recordings.specs.declared.Placed.{Placed}
+use Rattle.recordings_index.specs.declared.Placed.{Placed}
 use Rattle.recordings.proofs.StatedLaws.{stated_lengths, stated_many, stated_most}
 
 -- trailer or index is wrong
-module _ (s : List ℕ) {w : Trailed} (says : trailed_as w ≡ summed (index s)) (is : w ≡ Wrong) where
-  no_index : index s ≡ refused 18 0
-  no_index = go (index s) (sym says ∙ ap trailed_as is)
+module _ (s : List ℕ) {k p : ℕ} (says : refused k p ≡ summed (index s)) where
+  no_index : index s ≡ refused k p
+  no_index = go (index s) (sym says)
     where
-      go : (a : Answer Index) → summed a ≡ refused 18 0 → a ≡ refused 18 0
+      go : (a : Answer Index) → summed a ≡ refused k p → a ≡ refused k p
       go (fine i) e = absurd (not_fine (sym e))
-      go (refused k p) e = let a : k ≡ 18 = cc in let b : p ≡ 0 = cc in ap₂ refused a b
+      go (refused j v) e = cc
 
-  pub open_wrong : refused 18 0 ≡ count_of (opening no_table s)
+  pub open_wrong : refused k p ≡ count_of (opening no_table s)
   unfolding opening
   open_wrong = sym (simp no_index)
 
-  pub into_wrong : (r : ℕ) → refused 18 0 ≡ count_of (opening (table r) s)
+  pub into_wrong : (r : ℕ) → refused k p ≡ count_of (opening (table r) s)
   unfolding opening
   into_wrong r = sym (simp no_index)
 
@@ -46,15 +43,15 @@ module _ (s : List ℕ) {w : Trailed} (says : trailed_as w ≡ summed (index s))
   unfolding opening places_after
   into_wrong_kept t r = sym (simp no_index)
 
-  pub ask_wrong : (k : ℕ) → refused 18 0 ≡ asking s k
+  pub ask_wrong : (n : ℕ) → refused k p ≡ asking s n
   unfolding asking
-  ask_wrong k = sym (simp no_index)
+  ask_wrong n = sym (simp no_index)
 
 -- a message that was judged, and what is done with it then
-size_refused : {B : Type 0} (a : Answer Reading) (f : Reading → Answer B) (r : Refusal)
-    → refused r.number r.place ≡ size_of a → (a >>= f) ≡ refused r.number r.place
-size_refused (fine m) f r q = absurd (not_fine q)
-size_refused (refused j v) f r q = let a : j ≡ r.number = cc in let b : v ≡ r.place = cc in ap₂ refused a b
+size_refused : {B : Type 0} (a : Answer Reading) (f : Reading → Answer B) {k p : ℕ} → refused k p ≡ size_of a
+    → (a >>= f) ≡ refused k p
+size_refused (fine m) f q = absurd (not_fine q)
+size_refused (refused j v) f q = cc
 
 size_fine : {B : Type 0} (a : Answer Reading) {b : Answer B} (x : ℕ) → fine x ≡ size_of a → (a >>= (λ m. b)) ≡ b
 size_fine (fine m) x q = refl
@@ -122,10 +119,9 @@ module _ {s : List ℕ} {t : Trailer} (h : Stated s t) where
           go (fine r) e = ap (λ (x : Answer (Unit {0})). x >>= (λ z. fine t.entries)) e
           go (refused j p) e = refl
 
-      pub judging-refused : (r : Refusal)
-          → refused r.number r.place ≡ size_of (stretch t.edition.most s m.start m.length)
-          → refused r.number r.place ≡ count_of (opening no_table s)
-      judging-refused r q = sym (here ∙ size_refused (stretch t.edition.most s m.start m.length) _ r q)
+      pub judging-refused : {j v : ℕ} → refused j v ≡ size_of (stretch t.edition.most s m.start m.length)
+          → refused j v ≡ count_of (opening no_table s)
+      judging-refused q = sym (here ∙ size_refused (stretch t.edition.most s m.start m.length) _ q)
 
       pub judging-turn : (x : ℕ) → fine x ≡ size_of (stretch t.edition.most s m.start m.length)
           → Judging s t (k + 1)
@@ -158,10 +154,9 @@ module _ {s : List ℕ} {t : Trailer} (h : Stated s t) where
           (λ (p : Placed). stretch t.edition.most s p.start p.length >>= (λ r. fine (record { start = p.start; size = p.length })))
           (sym named))
 
-      pub ask-refused : (r : Refusal)
-          → refused r.number r.place ≡ size_of (stretch t.edition.most s m.start m.length)
-          → refused r.number r.place ≡ asking s k
-      ask-refused r q = sym (there ∙ size_refused (stretch t.edition.most s m.start m.length) _ r q)
+      pub ask-refused : {j v : ℕ} → refused j v ≡ size_of (stretch t.edition.most s m.start m.length)
+          → refused j v ≡ asking s k
+      ask-refused q = sym (there ∙ size_refused (stretch t.edition.most s m.start m.length) _ q)
 
       pub ask-found : (x : ℕ) → fine x ≡ size_of (stretch t.edition.most s m.start m.length)
           → fine (record { start = m.start; size = m.length }) ≡ asking s k

@@ -14,7 +14,7 @@ use Rattle.dividing.specs.Run.{total}
 use Rattle.recordings_format.specs.Judge.{index, place_size, places}
 use Rattle.recordings_index.specs.declared.Trailer.{Trailer}
 use Rattle.recordings.specs.Recordings.{Stated, lengths_in, entry_in, numbers_of, Storable}
-use Rattle.recordings.specs.declared.Placed.{Placed}
+use Rattle.recordings_index.specs.declared.Placed.{Placed}
 use Rattle.recordings.proofs.StatedLaws.{stated_lengths, stated_many, stated_few}
 
 -- the two numbers of a message, stored one after the other

@@ -11,12 +11,14 @@ use Rattle.sim0mq.specs.Answer.{Answer, fine, refused, part_at}
 use Rattle.sim0mq.specs.Message as M
 use Rattle.sim0mq.specs.Message.{limit, no_table, message, reading}
 use Rattle.sim0mq.specs.Demand1.{reading_numbers}
+use Rattle.std.specs.Prelude.{Ok, Err}
+use Rattle.sim0mq.specs.Views.{number_of}
 use Rattle.sim0mq.specs.declared.Refusal.{Refusal}
 use Rattle.sim0mq.proofs.Refusals.{Held, message_placed}
-use Rattle.reading.specs.Answers.{answered}
-use Rattle.reading.proofs.SaidLaws.{said_fine, said_refused}
+use Rattle.reading.specs.Answers.{answer_as, answered}
+use Rattle.reading.proofs.SaidLaws.{found_at, fault_at}
 use Rattle.reading.specs.declared.Found.{Found}
-use Rattle.reading.specs.declared.Reading.TheVariants.{Accepted, Refused}
+use Rattle.reading.specs.declared.Answer as A
 use Rattle.recordings_format.specs.Judge.{stretch}
 use Rattle.recordings.specs.Recordings.{size_of}
 
@@ -46,30 +48,33 @@ module _ (most : ℕ) (s : List ℕ) (at n : ℕ) (asked : (at + n ≤ length s)
     alike : stretch most s at n ≡ part_at at (reading no_table (take n (drop at s)))
     alike = stretch_read most s at n fits asked.1
 
-    pub stretch-accepted : (f : Found) → (answered (reading no_table (take (at + n - at) (drop at s)))).said ≡ Accepted f
-        → fine f.length ≡ size_of (stretch most s at n)
-    stretch-accepted f e =
-        let said = ap (λ (l : List ℕ). (answered (reading no_table l)).said) (sym cut) ∙ e in
-        let m = said_fine (reading no_table (take n (drop at s))) f said in
-        ap (λ (g : Found). fine g.length) (sym m.2) ∙ sym (ap (λ (x : Answer M.Reading). size_of (part_at at x)) m.1) ∙ sym (ap size_of alike)
+    -- a is what reading answers of that part
+    module _ (a : A.Answer) (told : answer_as a ≡ answered (reading no_table (take (at + n - at) (drop at s)))) where
+      here : answer_as a ≡ answered (reading no_table (take n (drop at s)))
+      here = told ∙ ap (λ (l : List ℕ). answered (reading no_table l)) cut
 
-    module _ (r : Refusal) (e : (answered (reading no_table (take (at + n - at) (drop at s)))).said ≡ Refused r) where
-      fault : reading no_table (take n (drop at s)) ≡ refused r.number r.place
-      fault =
-          said_refused (reading no_table (take n (drop at s))) r
-          (ap (λ (l : List ℕ). (answered (reading no_table l)).said) (sym cut) ∙ e)
+      pub stretch-accepted : (f : Found) → a.said ≡ Ok f → fine f.length ≡ size_of (stretch most s at n)
+      stretch-accepted f e =
+          let m = found_at (reading no_table (take n (drop at s))) a here f e in
+          ap (λ (g : Found). fine g.length) (sym m.2)
+          ∙ sym (ap (λ (x : Answer M.Reading). size_of (part_at at x)) m.1)
+          ∙ sym (ap size_of alike)
 
-      pub stretch-place : at + r.place ≤ length s
-      unfolding reading
-      stretch-place =
-          let m = take n (drop at s) in
-          let within = asked.0 in
-          let h
-          =
-          subst (λ (a : Answer M.Reading). Held (reading_numbers no_table) (length m) a) fault
-          (message_placed limit no_table m) in
-          let place = h.1 in
-          omega (arith, length-take n (drop at s), length-drop at s)
+      module _ (r : Refusal) (e : a.said ≡ Err r) where
+        fault : reading no_table (take n (drop at s)) ≡ refused (number_of r.reason) r.place
+        fault = fault_at (reading no_table (take n (drop at s))) a here r e
 
-      pub stretch-refused : refused r.number (at + r.place) ≡ size_of (stretch most s at n)
-      stretch-refused = sym (ap size_of (alike ∙ ap (part_at at) fault))
+        pub stretch-place : at + r.place ≤ length s
+        unfolding reading
+        stretch-place =
+            let m = take n (drop at s) in
+            let within = asked.0 in
+            let h
+            =
+            subst (λ (x : Answer M.Reading). Held (reading_numbers no_table) (length m) x) fault
+            (message_placed limit no_table m) in
+            let place = h.1 in
+            omega (arith, length-take n (drop at s), length-drop at s)
+
+        pub stretch-refused : refused (number_of r.reason) (at + r.place) ≡ size_of (stretch most s at n)
+        stretch-refused = sym (ap size_of (alike ∙ ap (part_at at) fault))

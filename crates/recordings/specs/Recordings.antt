@@ -1,21 +1,26 @@
 -- What opening and asking answer, over the definitions of a recording.
-use Rattle.std.specs.Prelude.{ℕ, ◌+◌, ◌*◌, ◌≤◌, ◌<◌, ◌≡◌, List, [], ◌∷◌, length, take, get_or}
+use Rattle.std.specs.Prelude.{ℕ, ◌+◌, ◌*◌, ◌≤◌, ◌<◌, ◌≡◌, List, [], ◌∷◌, length, take, get_or, Result}
 use Rattle.sim0mq.specs.Answer.{Answer, fine, refused}
 use Rattle.sim0mq.specs.Message.{Reading}
+use Rattle.sim0mq.specs.Views.{said_as}
+use Rattle.sim0mq.specs.declared.Refusal.{Refusal}
 use Rattle.dividing.specs.Run.{total}
 use Rattle.recordings_format.specs.Edition.{most_messages}
 use Rattle.recordings_format.specs.Judge as J
 use Rattle.recordings_format.specs.Judge.{Index, index, place_size}
 use Rattle.recordings_index.specs.Index.{trailer_as, summary}
 use Rattle.recordings_index.specs.declared.Trailer.{Trailer}
-use Rattle.recordings.specs.declared.Placed.{Placed}
-use Rattle.recordings.specs.declared.Asked.{Asked}
-use Rattle.recordings.specs.declared.Asked.TheVariants.{At, Refused}
+use Rattle.recordings_index.specs.declared.Placed.{Placed}
 
--- Each answer of asking, as the definitions have it.
-abbrev pub asked_as : Asked → Answer J.Placed
-asked_as (At p) = fine (record { start = p.start; size = p.length })
-asked_as (Refused r) = refused r.number r.place
+-- What the trailer says, and each answer of asking, as the definitions have it.
+abbrev pub trailer_said : Result Trailer Refusal → Answer J.Trailer
+trailer_said r = said_as trailer_as r
+
+abbrev pub placed_as : Placed → J.Placed
+placed_as p = record { start = p.start; size = p.length }
+
+abbrev pub asked_as : Result Placed Refusal → Answer J.Placed
+asked_as r = said_as placed_as r
 
 -- What opening answers of an index: the number of messages.
 abbrev pub count_of : Answer Index → Answer ℕ

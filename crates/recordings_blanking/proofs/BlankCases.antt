@@ -1,6 +1,6 @@
 -- The copies are made one after the other, each in the part of the output where its message stands: what is written so
 -- far is the copies so far, and once the index and the trailer follow them it is the copy of the recording.
-use Prim.Native.Nat.{ℕ, zero, suc, ◌+◌, ◌-◌, ◌≤◌, ◌<◌, zero-le}
+use Prim.Native.Nat.{ℕ, zero, suc, ◌+◌, ◌-◌, ◌≤◌, ◌<◌}
 use mathlib.Core.Path.{◌≡◌, refl, ap, ap₂, sym, ◌∙◌, subst}
 use mathlib.Core.List.{List, [], ◌∷◌, ◌++◌, map, flat_map, append_assoc, append-nil}
 use native.Mathlib.Omega.{arith}
@@ -24,9 +24,11 @@ use Rattle.dividing.specs.Front.{Taken}
 use Rattle.dividing.specs.Run.{stretches, total}
 use Rattle.recordings_format.specs.Judge.{Index, index, opening, placed_in}
 use Rattle.recordings_format.proofs.IndexLaws.{total_more}
+use Rattle.recordings_index.specs.Index.{entry_at}
 use Rattle.recordings_index.specs.declared.Trailer.{Trailer}
+use Rattle.recordings_index.specs.declared.Placed.{Placed}
 use Rattle.recordings.specs.Recordings.{Stated, lengths_in, entry_in, count_of}
-use Rattle.recordings.proofs.StatedLaws.{stated_lengths, stated_many, stated_place, entry-lies}
+use Rattle.recordings.proofs.StatedLaws.{stated_lengths, stated_many, stated_place, entry-stated, entry-lies}
 use Rattle.recordings_blanking.specs.Blanking.{copy_of, copies_in, blanked_recording, blanking_recording}
 use Rattle.recordings_blanking.specs.Copying.{Accepted}
 use Rattle.recordings_blanking.proofs.CopyLaws.{one_long, opened_index, opened_within, opened_nth, copy_blank, copies_are_long}
@@ -78,20 +80,18 @@ blank_part m out part at n t long room e =
     ap (λ (l : List ℕ). take at out ++ (l ++ drop n (drop at out))) is
     ∙ ap (λ (l : List ℕ). take at out ++ (copy_of m ++ l)) (drop-drop n at out ∙ ap (λ (k : ℕ). drop k out) end)
 
--- the loop over the messages: the first k are copied, and the next begins at `at`
-pub record Copying (s : List ℕ) (t : Trailer) (old new : List ℕ) (at k : ℕ) : Type 0 where
-  pub few : k ≤ t.entries
-  pub place : at ≡ total (take k (lengths_in (index s)))
+-- the loop over the messages: the first k are copied
+pub record Copying (s : List ℕ) (t : Trailer) (old new : List ℕ) (k : ℕ) : Type 0 where
   pub long : length new ≡ length old
-  pub sized : length (copies_in s (take k (lengths_in (index s)))) ≡ at
+  pub sized : length (copies_in s (take k (lengths_in (index s)))) ≡ total (take k (lengths_in (index s)))
   pub same : new ≡ placed old 0 (copies_in s (take k (lengths_in (index s))))
 
-pub copying_start : (s : List ℕ) (t : Trailer) (old : List ℕ) → Copying s t old old 0 0
+pub copying_start : (s : List ℕ) (t : Trailer) (old : List ℕ) → Copying s t old old 0
 unfolding copies_in stretches total flat_map
-copying_start s t old = record { few = zero-le; place = refl; long = refl; sized = refl; same = placed_nothing old 0 }
+copying_start s t old = record { long = refl; sized = refl; same = placed_nothing old 0 }
 
-module _ {s : List ℕ} {t : Trailer} {old new : List ℕ} {at k : ℕ} (asked : Accepted s t × (length s ≤ length old))
-    (u : Copying s t old new at k) where
+module _ {s : List ℕ} {t : Trailer} {old new : List ℕ} {k : ℕ} (asked : Accepted s t × (length s ≤ length old))
+    (u : Copying s t old new k) where
   abbrev ns : List ℕ
   ns = lengths_in (index s)
 
@@ -106,56 +106,68 @@ module _ {s : List ℕ} {t : Trailer} {old new : List ℕ} {at k : ℕ} (asked :
       let n = many in
       u.same ∙ ap (λ (l : List ℕ). placed old 0 (copies_in s l)) (take_all k ns (omega arith))
 
-  module _ (f : k < t.entries) (n : ℕ) (size : n ≡ get_or ns k 0) where
-    pub copying-is : record { start = at; length = n } ≡ entry_in ns k
-    copying-is = λ i. record { start = u.place i; length = size i }
+  module _ (f : k < t.entries) {m : Placed} (read : m ≡ entry_at (length s) s t k) where
+    is : m ≡ entry_in ns k
+    is = entry-stated asked.0.stated f read
 
-    pub copying-lies : at + n ≤ length s
-    copying-lies = (entry-lies asked.0.stated f copying-is).0
+    place : m.start ≡ total (take k ns)
+    place = ap (λ (p : Placed). p.start) is
+
+    size : m.length ≡ get_or ns k 0
+    size = ap (λ (p : Placed). p.length) is
+
+    pub copying-lies : m.start + m.length ≤ length s
+    copying-lies = (entry-lies asked.0.stated f is).0
+
+    abbrev message : List ℕ
+    message = take m.length (drop m.start s)
 
     -- the message is accepted, and as long as its entry says
-    taken : Taken limit (take n (drop at s))
+    taken : Taken limit message
     taken =
         let i = asked.0.stated.found in
         let some : k < length i.lengths = (let c = stated_many asked.0.stated in omega arith) in
-        let there : ((placed_in i.lengths k).size ≡ n) × ((placed_in i.lengths k).start ≡ at)
-        = (ap (λ (l : List ℕ). get_or l k 0) (sym stated) ∙ sym size, ap (λ (l : List ℕ). total (take k l)) (sym stated) ∙ sym u.place) in
-        subst (λ (x : ℕ). Taken limit (take x (drop at s))) there.0
+        let there : ((placed_in i.lengths k).size ≡ m.length) × ((placed_in i.lengths k).start ≡ m.start)
+        = (ap (λ (l : List ℕ). get_or l k 0) (sym stated) ∙ sym size, ap (λ (l : List ℕ). total (take k l)) (sym stated) ∙ sym place) in
+        subst (λ (x : ℕ). Taken limit (take x (drop m.start s))) there.0
         (subst (λ (x : ℕ). Taken limit (take (placed_in i.lengths k).size (drop x s))) there.1
         (opened_nth s i asked.0.opened k some))
 
-    pub copying-turn : (end : ℕ) (part next : List ℕ) → end ≡ at + n
+    pub copying-turn : (end : ℕ) (part next : List ℕ) → end ≡ m.start + m.length
         → part
-        ≡ output_after (mid_of at (end - at) new) (blanking (length (mid_of at (end - at) new)) (take (end - at) (drop at s)))
-        → next ≡ put_mid at (end - at) new part → Copying s t old next end (k + 1)
-    copying-turn end part next e made is =
+        ≡ output_after (mid_of m.start (end - m.start) new)
+        (blanking (length (mid_of m.start (end - m.start) new)) (take (end - m.start) (drop m.start s)))
+        → next ≡ put_mid m.start (end - m.start) new part → Copying s t old next (k + 1)
+    copying-turn end part next e made written_is =
+        let at = m.start in
         let lies = copying-lies in
         let room = asked.1 in
         let kept = u.long in
-        let m = take n (drop at s) in
-        let size_is : end - at ≡ n = omega arith in
-        let long : length m ≡ n = length-take-le n (drop at s) (omega (arith, length-drop at s)) in
-        let copied = one_long m taken in
+        let size_is : end - at ≡ m.length = omega arith in
+        let long : length message ≡ m.length
+        = length-take-le m.length (drop at s) (omega (arith, length-drop at s)) in
+        let copied = one_long message taken in
         let before = copies_in s (take k ns) in
         let sized = u.sized in
+        let begins = place in
         let some : k < length ns = (let c = many in omega arith) in
-        let all : copies_in s (take (k + 1) ns) ≡ before ++ copy_of m = copies_more s ns k at n some u.place size in
-        let written : next ≡ placed new at (copy_of m)
+        let all : copies_in s (take (k + 1) ns) ≡ before ++ copy_of message
+        = copies_more s ns k at m.length some place size in
+        let next_place : total (take (k + 1) ns) ≡ at + m.length
+        = rw (add-one k) (total_more ns k some) ∙ (λ i. sym place i + sym size i) in
+        let written : next ≡ placed new at (copy_of message)
         =
-        is
-        ∙ blank_part m new part at (end - at) taken (omega arith) (omega arith)
+        written_is
+        ∙ blank_part message new part at (end - at) taken (omega arith) (omega arith)
         (made
         ∙ ap (λ (j : ℕ). output_after (mid_of at (end - at) new) (blanking (length (mid_of at (end - at) new)) (take j (drop at s)))) size_is) in
         record {
-          few = omega arith;
-          place =
-              e ∙ (λ i. u.place i + size i) ∙ sym (rw (add-one k) (total_more ns k some));
-          long = ap length written ∙ placed_length new at (copy_of m) (omega arith) ∙ kept;
-          sized = ap length all ∙ length-append before (copy_of m) ∙ omega arith;
+          long = ap length written ∙ placed_length new at (copy_of message) (omega arith) ∙ kept;
+          sized = ap length all ∙ length-append before (copy_of message) ∙ omega arith;
           same =
               written
-              ∙ ap (λ (l : List ℕ). placed l at (copy_of m)) u.same
-              ∙ placed_on old 0 before (copy_of m) at (omega arith) (omega arith)
+              ∙ ap (λ (l : List ℕ). placed l at (copy_of message)) u.same
+              ∙ placed_on old 0 before (copy_of message) at (omega arith) (omega arith)
               ∙ ap (placed old 0) (sym all);
         }
 

@@ -11,18 +11,16 @@ use Rattle.sim0mq.specs.Answer.{Answer, fine, refused}
 use Rattle.sim0mq.specs.Message.{limit, no_table, Reading}
 use Rattle.sim0mq.specs.Table.{stored}
 use Rattle.sim0mq.specs.declared.Refusal.{Refusal}
-use Rattle.sim0mq.specs.declared.Judged.{Judged}
-use Rattle.sim0mq.specs.declared.Judged.TheVariants.{Accepted, Refused}
+use Rattle.std.specs.Prelude.{Result, Ok, Err}
 use Rattle.sim0mq.specs.Demand1.{judging_numbers}
-use Rattle.sim0mq.specs.Views.{judged}
+use Rattle.sim0mq.specs.Views.{number_of, judged}
 use Rattle.sim0mq.proofs.Refusals.{Held, message_placed}
 use Rattle.dividing.specs.Front.{front_length}
 use Rattle.dividing.specs.Run as R
 use Rattle.dividing.specs.Run.{at_end, at_most, at_fault, Run, stopped, longer, run_from, total}
 use Rattle.dividing.proofs.FrontLaws.{taken_short, front_there, front_fault}
 use Rattle.dividing.proofs.RunLaws.{after, run_end}
-use Rattle.recordings_fronts.specs.Fronts.{stop_of, divided_of}
-use Rattle.recordings_fronts.specs.declared.Divided.{Divided}
+use Rattle.recordings_fronts.specs.Fronts.{Divided, divided_of}
 
 -- one turn of a run, and how it stops
 run_taken : (most many : ℕ) (s : List ℕ) (at n : ℕ) → at < length s → front_length most (drop at s) ≡ fine n
@@ -85,7 +83,7 @@ divides_start s kept =
 -- the three ways to stop: the answer, and what is kept
 abbrev pub Stops : (s kept₀ kept : List ℕ) (at k : ℕ) → R.Stop → Type 0
 Stops s kept₀ kept at k w =
-    (◌≡◌ {A = Divided} (record { count = k; end = at; stop = stop_of w }) (divided_of (run_from limit (length kept₀) s 0)))
+    (◌≡◌ {A = Divided} (record { count = k; end = at; stop = w }) (divided_of (run_from limit (length kept₀) s 0)))
     × (kept ≡ stored kept₀ (run_from limit (length kept₀) s 0).lengths)
 
 module _ {s kept₀ kept : List ℕ} {at k : ℕ} (d : Divides s kept₀ kept at k) where
@@ -99,7 +97,7 @@ module _ {s kept₀ kept : List ℕ} {at k : ℕ} (d : Divides s kept₀ kept at
       let count : length ns ≡ k = length-take-le k kept (omega arith) in
       let whole : run_from limit (length kept₀) s 0 ≡ record { lengths = ns; stop = w }
       = d.run ∙ ap (after ns) e ∙ ap (λ (l : List ℕ). record { lengths = l; stop = w }) (append-nil ns) in (
-        sym (ap divided_of whole ∙ (λ i. record { count = count i; end = sym d.ends i; stop = stop_of w })),
+        sym (ap divided_of whole ∙ (λ i. record { count = count i; end = sym d.ends i; stop = w })),
         sym
             (ap (λ (r : Run). r.lengths ++ drop (length r.lengths) kept₀) whole
             ∙ ap (λ (n : ℕ). ns ++ drop n kept₀) count
@@ -159,29 +157,29 @@ module _ {s kept₀ kept : List ℕ} {at k : ℕ} (d : Divides s kept₀ kept at
           }
 
   -- what the front's judge told of the part from `at` on
-  module _ (j : Judged) (said : judged j ≡ front_length limit (take (length s - at) (drop at s))) where
+  module _ (j : Result ℕ Refusal) (said : judged j ≡ front_length limit (take (length s - at) (drop at s))) where
     from_here : front_length limit (drop at s) ≡ judged j
     from_here =
         sym (said ∙ ap (front_length limit) (take_all (length s - at) (drop at s) (omega (arith, length-drop at s))))
 
     -- a message: it lies in the bytes, and the division goes on after it
-    pub taken-within : (n : ℕ) → j ≡ Accepted n → (at + n ≤ length s) × (n ≤ limit)
+    pub taken-within : (n : ℕ) → j ≡ Ok n → (at + n ≤ length s) × (n ≤ limit)
     taken-within n e =
         let within = d.within in
         let bounds = front_bounds (drop at s) n (from_here ∙ ap judged e) in
         let short = bounds.0 in
         (omega (arith, length-drop at s), bounds.1)
 
-    pub taken-turn : (n : ℕ) → j ≡ Accepted n → at < length s → k < length kept → Divides s kept₀ (set kept k n) (at + n) (k + 1)
+    pub taken-turn : (n : ℕ) → j ≡ Ok n → at < length s → k < length kept → Divides s kept₀ (set kept k n) (at + n) (k + 1)
     taken-turn n e h room = divides-turn h room n (from_here ∙ ap judged e)
 
     -- or none
-    pub fault-within : (r : Refusal) → j ≡ Refused r → at + r.place ≤ length s
+    pub fault-within : (r : Refusal) → j ≡ Err r → at + r.place ≤ length s
     fault-within r e =
         let within = d.within in
         let bound = fault_bound (drop at s) _ _ (from_here ∙ ap judged e) in
         omega (arith, length-drop at s)
 
-    pub stops-at-fault : (r : Refusal) → j ≡ Refused r → at < length s → k < length kept
-        → Stops s kept₀ kept at k (at_fault r.number (at + r.place))
-    stops-at-fault r e h room = fault-stops h room r.number r.place (from_here ∙ ap judged e)
+    pub stops-at-fault : (r : Refusal) → j ≡ Err r → at < length s → k < length kept
+        → Stops s kept₀ kept at k (at_fault (number_of r.reason) (at + r.place))
+    stops-at-fault r e h room = fault-stops h room (number_of r.reason) r.place (from_here ∙ ap judged e)

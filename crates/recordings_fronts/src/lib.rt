@@ -7,31 +7,27 @@ ghost use Rattle.sim0mq.specs.Table.{stored};
 ghost use Rattle.sim0mq.specs.Views.{judged};
 ghost use Rattle.dividing.specs.Front.{front_of, front_length};
 ghost use Rattle.dividing.specs.Run.{run_from};
-ghost use Rattle.recordings_fronts.specs.Fronts.{divided_of};
+ghost use Rattle.recordings_fronts.specs.Fronts.{divided_as, divided_of};
 
-use reading::{Reading, judge};
-use sim0mq::{Judged, LIMIT, Refusal};
+use reading::judge;
+use sim0mq::{LIMIT, Reason, Refusal};
 
 // The length of the message at the front of bytes that are no more than the limit: where reading accepts them it is
 // all of them, and where it refuses them by 13 it ends at that place. Else the refusal.
-fn front(bytes: &[u8]) -> Judged
+fn front(bytes: &[u8]) -> Result<usize, Refusal>
     ensures { judged result ≡ front_of (reading_of no_table bytes.now) }
 {
-    let a = judge(bytes);
-    let said = a.said;
-    match said {
-        Reading::Accepted(f) => Judged::Accepted(f.length),
-        Reading::Refused(r) => {
-            if r.number == 13 {
-                return Judged::Accepted(r.place);
-            }
-            Judged::Refused(r)
-        }
+    match judge(bytes).said {
+        Ok(f) => Ok(f.length),
+        Err(r) => match r.reason {
+            Reason::BytesLeft => Ok(r.place),
+            _ => Err(r),
+        },
     }
 }
 
 // The length of the message at the front of the bytes; or the refusal of reading them, cut at the message limit.
-pub fn front_length(rest: &[u8]) -> Judged
+pub fn front_length(rest: &[u8]) -> Result<usize, Refusal>
     ensures { judged result ≡ front_length limit rest.now }
 {
     if LIMIT < rest.len() {
@@ -60,13 +56,12 @@ pub struct Divided {
 // The messages from the front of s, at most as many as `lengths` has room for; it then holds their lengths, and after
 // them what it held.
 pub fn divide(s: &[u8], lengths: &mut [u32]) -> Divided
-    ensures answer { result ≡ divided_of (run_from limit (length lengths.old) s.now 0) }
+    ensures answer { divided_as result ≡ divided_of (run_from limit (length lengths.old) s.now 0) }
     ensures kept { lengths.new
         ≡ stored lengths.old (run_from limit (length lengths.old) s.now 0).lengths }
 {
     let mut at: usize = 0;
-    let mut k: usize = 0;
-    loop {
+    for (k, length) in lengths.iter_mut().enumerate() {
         if s.len() <= at {
             return Divided {
                 count: k,
@@ -74,29 +69,31 @@ pub fn divide(s: &[u8], lengths: &mut [u32]) -> Divided
                 stop: Stop::AtEnd,
             };
         }
-        if lengths.len() <= k {
-            return Divided {
-                count: k,
-                end: at,
-                stop: Stop::AtMost,
-            };
-        }
         match front_length(&s[at..]) {
-            Judged::Refused(r) => {
+            Err(r) => {
                 return Divided {
                     count: k,
                     end: at,
                     stop: Stop::AtFault(Refusal {
-                        number: r.number,
                         place: at + r.place,
+                        reason: r.reason,
                     }),
                 };
             }
-            Judged::Accepted(n) => {
-                lengths[k] = n as u32;
+            Ok(n) => {
+                *length = n as u32;
                 at += n;
             }
         }
-        k += 1;
+    }
+    let stop = if at < s.len() {
+        Stop::AtMost
+    } else {
+        Stop::AtEnd
+    };
+    Divided {
+        count: lengths.len(),
+        end: at,
+        stop,
     }
 }

@@ -1,4 +1,5 @@
 pub mod TrailerCases
+pub mod EntryCases
 pub mod TileCases
 pub mod IndexCases
 pub mod TailLaws

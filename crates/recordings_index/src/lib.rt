@@ -1,10 +1,10 @@
 // The trailer and the index of a recording.
 #![tactic(auto)]
 
-ghost use Rattle.std.specs.Prelude.{◌≡◌, ◌<◌, ◌≤◌, length};
+ghost use Rattle.std.specs.Prelude.{◌≡◌, ◌<◌, ◌≤◌, ◌^◌, length};
 ghost use Rattle.recordings_format.specs.Edition.{edition_of, trailer_size};
 ghost use Rattle.recordings_format.specs.Judge.{trailer_from, index as index_of};
-ghost use Rattle.recordings_index.specs.Index.{known_as, trailed_as, summed, reached_as, summed_in, Trailing, tiled};
+ghost use Rattle.recordings_index.specs.Index.{known_as, trailed_as, summed, reached_as, summed_in, first_entry, entry_at, Trailing, tiled};
 ghost use Rattle.recordings_index.specs.Tail.{trailer_in, index_in};
 
 use recordings_format::{LENGTH_BYTES, MOST, NEWEST, TRAILER};
@@ -19,31 +19,26 @@ pub struct Edition {
     pub most: usize,
 }
 
-#[derive(Clone, Copy)]
-pub enum Known {
-    Row(Edition),
-    Unknown,
-}
-
 // The edition of this number.
-fn row_of(n: usize) -> Known
+#[tactic(auto, unfolding(recordings_format::specs::Edition::edition_in, sim0mq::specs::Message::limit))]
+fn row_of(n: usize) -> Option<Edition>
     ensures { known_as result ≡ edition_of n }
 {
     if n == 1 {
-        return Known::Row(Edition {
+        return Some(Edition {
             number: 1,
             wide: 2,
             most: 32768,
         });
     }
     if n == NEWEST {
-        return Known::Row(Edition {
+        return Some(Edition {
             number: NEWEST,
             wide: LENGTH_BYTES,
             most: LIMIT,
         });
     }
-    Known::Unknown
+    None
 }
 
 // What the trailer says: the edition, the place of the first entry, and the number of entries.
@@ -54,37 +49,55 @@ pub struct Trailer {
     pub entries: usize,
 }
 
+// Where a message stands.
 #[derive(Clone, Copy)]
-pub enum Trailed {
-    Found(Trailer),
-    Wrong,
+pub struct Placed {
+    pub start: usize,
+    pub length: usize,
 }
 
-// The trailer of these numbers, which begins at `at`, where it is right.
-fn trailer_from(n: usize, place: usize, entries: usize, at: usize) -> Trailed
-    requires { place < 4294967296 }
-    ensures { trailed_as result ≡ trailer_from n place entries at }
-{
-    match row_of(n) {
-        Known::Unknown => Trailed::Wrong,
-        Known::Row(e) => {
-            if MOST < entries {
-                return Trailed::Wrong;
-            }
-            if place + (4 + e.wide) * entries != at {
-                return Trailed::Wrong;
-            }
-            Trailed::Found(Trailer {
-                edition: e,
-                place,
-                entries,
-            })
+impl Trailer {
+    // Where message k stands, as its entry states in the last bytes of a file of n; what is past those bytes is 0.
+    pub fn entry(self, n: usize, tail: &[u8], k: usize) -> Placed
+        ensures answer { result ≡ entry_at n tail.now self k }
+        ensures narrow { (result.start < 256 ^ 4) × (result.length < 256 ^ self.edition.wide) }
+    {
+        let wide = self.edition.wide;
+        let from = tail.len().saturating_sub(n.saturating_sub(self.place));
+        let p = wide
+            .saturating_add(4)
+            .saturating_mul(k)
+            .saturating_add(from);
+        Placed {
+            start: number(tail, p, 4),
+            length: number(tail, p.saturating_add(4), wide),
         }
     }
 }
 
+// The trailer of these numbers, which begins at `at`, where it is right.
+#[tactic(auto, using(crate::proofs::TrailerCases::from_narrow, crate::proofs::TrailerCases::from_small), unfolding(recordings_format::specs::Judge::trailer_from, recordings_format::specs::Edition::most_messages))]
+fn trailer_from(n: usize, place: usize, entries: usize, at: usize) -> Option<Trailer>
+    requires { place < 4294967296 }
+    ensures { trailed_as result ≡ trailer_from n place entries at }
+{
+    let edition = row_of(n)?;
+    if MOST < entries {
+        return None;
+    }
+    if place + (4 + edition.wide) * entries != at {
+        return None;
+    }
+    Some(Trailer {
+        edition,
+        place,
+        entries,
+    })
+}
+
 // The trailer of a file of n bytes that ends in these: the last ten of them.
-fn trailer_of(n: usize, tail: &[u8]) -> Trailed
+#[tactic(auto, using(crate::proofs::TrailerCases::trailer_read), unfolding(recordings_format::specs::Edition::trailer_size))]
+fn trailer_of(n: usize, tail: &[u8]) -> Option<Trailer>
     requires { (trailer_size ≤ length tail.now) × (trailer_size ≤ n) }
     ensures { trailed_as result ≡ trailer_in n tail.now }
 {
@@ -95,23 +108,20 @@ fn trailer_of(n: usize, tail: &[u8]) -> Trailed
     trailer_from(e, place, entries, n - TRAILER)
 }
 
-// Whether the entries from `from` on, in which a length has w bytes, tile the bytes up to `end`.
-fn tiles(s: &[u8], w: usize, from: usize, entries: usize, end: usize) -> bool
-    requires { Trailing s.now w from entries }
-    ensures { result ≡ tiled s.now w from entries end }
+// Whether the entries that this trailer of a file of n bytes states tile the bytes before them.
+fn tiles(n: usize, tail: &[u8], t: Trailer) -> bool
+    requires { Trailing tail.now t.edition.wide (first_entry n tail.now t) t.entries }
+    ensures { result ≡ tiled tail.now t.edition.wide (first_entry n tail.now t) t.entries t.place }
 {
     let mut at: usize = 0;
-    let mut p = from;
-    let mut k: usize = 0;
-    while k < entries {
-        if number(s, p, 4) != at {
+    for k in 0..t.entries {
+        let m = t.entry(n, tail, k);
+        if m.start != at {
             return false;
         }
-        at += number(s, p + 4, w);
-        p += 4 + w;
-        k += 1;
+        at += m.length;
     }
-    at == end
+    at == t.place
 }
 
 // What came of the last bytes of a file: what its trailer says; that trailer or index is wrong; or how many of its last
@@ -125,6 +135,7 @@ pub enum Reached {
 
 // What trailer and index say of a file of n bytes that ends in these, where both are right; or how many of its last
 // bytes are wanted, where these do not reach the first entry.
+#[tactic(auto, unfolding(crate::specs::Tail::index_in, recordings_format::specs::Edition::trailer_size))]
 pub fn index_tail(n: usize, tail: &[u8]) -> Reached
     ensures { reached_as result ≡ summed_in (index_in n tail.now) }
 {
@@ -137,30 +148,28 @@ pub fn index_tail(n: usize, tail: &[u8]) -> Reached
     if tail.len() < TRAILER {
         return Reached::Wanted(TRAILER);
     }
-    match trailer_of(n, tail) {
-        Trailed::Wrong => Reached::Wrong,
-        Trailed::Found(t) => {
-            let want = n - t.place;
-            if tail.len() < want {
-                return Reached::Wanted(want);
-            }
-            let e = t.edition;
-            if !tiles(tail, e.wide, tail.len() - want, t.entries, t.place) {
-                return Reached::Wrong;
-            }
-            Reached::Found(t)
-        }
+    let Some(t) = trailer_of(n, tail) else {
+        return Reached::Wrong;
+    };
+    let want = n - t.place;
+    if tail.len() < want {
+        return Reached::Wanted(want);
     }
+    if !tiles(n, tail, t) {
+        return Reached::Wrong;
+    }
+    Reached::Found(t)
 }
 
 // What trailer and index say, where both are right: the edition, the place of the index, and the number of messages.
 // The whole recording reaches as far as is wanted.
-pub fn index(s: &[u8]) -> Trailed
+#[tactic(auto, using(crate::proofs::TailLaws::whole_comes, crate::proofs::TailLaws::whole_wants))]
+pub fn index(s: &[u8]) -> Option<Trailer>
     ensures { trailed_as result ≡ summed (index_of s.now) }
 {
     match index_tail(s.len(), s) {
-        Reached::Found(t) => Trailed::Found(t),
-        Reached::Wrong => Trailed::Wrong,
-        Reached::Wanted(_) => Trailed::Wrong,
+        Reached::Found(t) => Some(t),
+        Reached::Wrong => None,
+        Reached::Wanted(_) => None,
     }
 }

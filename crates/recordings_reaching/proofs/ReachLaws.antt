@@ -1,33 +1,30 @@
 -- What a right trailer and index say by the last bytes of a file: the entries stand in these, and each states the start
 -- and the length of its message in the file.
-use Prim.Native.Nat.{ℕ, suc, ◌+◌, ◌-◌, ◌*◌, ◌≤◌, ◌<◌}
+use Prim.Native.Nat.{ℕ, ◌+◌, ◌-◌, ◌*◌, ◌≤◌, ◌<◌}
 use mathlib.Core.Path.{◌≡◌, refl, ap, ap₂, sym, ◌∙◌, subst}
 use mathlib.Core.Bool.{Bool, true, false}
 use mathlib.Core.List.{List}
 use native.Mathlib.Omega.{arith}
-use native.Mathlib.Nat.{mul-suc, mul-le-mul_left, zero-add}
+use native.Mathlib.Nat.{zero-add}
 use lib.Dec.{leb}
-use lib.ListN.{length, take, get_or}
+use lib.ListN.{length, get_or}
 use borrow.Author.Tests.{leb-true, le-leb, lt-leb, lt-ltb, le-ltb}
 use Rattle.sim0mq.specs.Answer.{Answer, fine, refused}
 use Rattle.sim0mq.proofs.Answers.{not_fine, fine_eq, guarded, bind_fine}
-use Rattle.sim0mq_numbers.specs.Numbers.{number_at}
 use Rattle.dividing.specs.Run.{total}
 use Rattle.recordings_format.specs.Edition as E
-use Rattle.recordings_format.specs.Edition.{entry_size, trailer_size}
+use Rattle.recordings_format.specs.Edition.{entry_size, most_messages, trailer_size}
 use Rattle.recordings_format.specs.Judge as J
 use Rattle.recordings_format.specs.Judge.{entries_from, Index}
 use Rattle.recordings_format.proofs.EditionLaws.{Row}
-use Rattle.recordings_format.proofs.IndexLaws.{numbers_say, entries_many, entries_nth}
+use Rattle.recordings_format.proofs.IndexLaws.{numbers_say, entries_many}
 use Rattle.recordings_index.specs.Tail.{Reached, there, wanted, enough_or, trailer_in, entries_in, index_in}
-use Rattle.recordings_index.specs.Index.{row_of, trailer_as, reached_as, summed_in}
+use Rattle.recordings_index.specs.Index.{row_of, trailer_as, summed_in, first_entry, entry_at, Trailing}
 use Rattle.recordings_index.specs.declared.Trailer.{Trailer}
-use Rattle.recordings_index.specs.declared.Reached as D
-use Rattle.recordings_index.specs.declared.Reached.TheVariants.{Found, Wrong, Wanted}
-use Rattle.recordings_index.proofs.TrailerCases.{number_there}
+use Rattle.recordings_index.proofs.EntryCases.{entry_nth}
 use Rattle.recordings.specs.Recordings.{entry_in}
-use Rattle.recordings.specs.declared.Placed.{Placed}
-use Rattle.recordings_reaching.specs.Reaching.{placing, asking_in, StatedIn, lengths_by}
+use Rattle.recordings_index.specs.declared.Placed.{Placed}
+use Rattle.recordings_reaching.specs.Reaching.{placing, asking_in, StatedIn}
 
 there_eq : {A : Type 0} {a b : A} → ◌≡◌ {A = Reached A} (there a) (there b) → a ≡ b
 there_eq e = cc
@@ -51,6 +48,7 @@ enough_had false w go e = absurd (not_there (fine_eq e))
 -- trailer and index that are right
 pub record Says (n : ℕ) (tail : List ℕ) (i : Index) : Type 0 where
   pub row : Row i.edition
+  pub few : length i.lengths ≤ most_messages
   pub ends : length tail ≤ n
   pub reach : n - total i.lengths ≤ length tail
   pub fills : total i.lengths + entry_size i.edition * length i.lengths + trailer_size ≡ n
@@ -80,6 +78,7 @@ index_in_says n tail i q =
     subst (λ (x : Index). Says n tail x) (there_eq (fine_eq h.2))
     (record {
       row = f.row;
+      few = subst (λ (x : ℕ). x ≤ most_messages) many f.few;
       ends = leb-true (length tail) n b.0;
       reach = subst (λ (p : ℕ). n - p ≤ length tail) place (leb-true (n - t.place) (length tail) g.0);
       fills = sym (λ j. place j + entry_size t.edition * many j + trailer_size) ∙ all;
@@ -90,9 +89,8 @@ index_in_says n tail i q =
     filled p x n h e = omega arith
 
 -- what the code found is stated
-pub stated_in : (n : ℕ) (tail : List ℕ) {w : D.Reached} {t : Trailer} → reached_as w ≡ summed_in (index_in n tail) → w ≡ Found t
-    → StatedIn n tail t
-stated_in n tail {w} {t} says is = go (index_in n tail) refl (sym says ∙ ap reached_as is)
+pub stated_in : (n : ℕ) (tail : List ℕ) {t : Trailer} → fine (there (trailer_as t)) ≡ summed_in (index_in n tail) → StatedIn n tail t
+stated_in n tail {t} says = go (index_in n tail) refl (sym says)
   where
     go : (a : Answer (Reached Index)) → index_in n tail ≡ a → summed_in a ≡ fine (there (trailer_as t)) → StatedIn n tail t
     go (fine (there i)) q e = record { found = i; is = q; says = there_eq (fine_eq e) }
@@ -112,53 +110,28 @@ module _ {n : ℕ} {tail : List ℕ} {t : Trailer} (h : StatedIn n tail t) where
   many : length h.found.lengths ≡ t.entries
   many = ap (λ (x : J.Trailer). x.entries) h.says
 
-  pub in_narrow : t.edition.wide ≤ 4
-  in_narrow = subst (λ (x : E.Edition). x.length_bytes ≤ 4) edition told.row.narrow
-
   fills : t.place + (4 + t.edition.wide) * t.entries + trailer_size ≡ n
   fills = sym (λ i. place i + entry_size (edition i) * many i + trailer_size) ∙ told.fills
 
-  pub in_place : t.place ≤ n
-  in_place = go ((4 + t.edition.wide) * t.entries) fills
+  reach : n - t.place ≤ length tail
+  reach = subst (λ (p : ℕ). n - p ≤ length tail) place told.reach
+
+  -- the entries stand in these bytes, and are the index's
+  trailing : Trailing tail t.edition.wide (first_entry n tail t) t.entries
+  trailing =
+      record {
+        few = subst (λ (m : ℕ). m ≤ most_messages) many told.few;
+        narrow = subst (λ (x : E.Edition). x.length_bytes ≤ 4) edition told.row.narrow;
+        fills = go ((4 + t.edition.wide) * t.entries) fills reach;
+      }
     where
-      go : (x : ℕ) → t.place + x + trailer_size ≡ n → t.place ≤ n
-      go x e = omega arith
+      go : (x : ℕ) → t.place + x + trailer_size ≡ n → n - t.place ≤ length tail
+          → length tail - (n - t.place) + x + trailer_size ≡ length tail
+      go x e f = omega arith
 
-  pub in_reach : n - t.place ≤ length tail
-  in_reach = subst (λ (p : ℕ). n - p ≤ length tail) place told.reach
-
-  abbrev from : ℕ
-  from = length tail - (n - t.place)
-
-  states : entries_from tail t.edition.wide t.entries from 0 t.place ≡ fine h.found.lengths
+  states : entries_from tail t.edition.wide t.entries (first_entry n tail t) 0 t.place ≡ fine h.found.lengths
   states =
       sym (λ i. entries_from tail (edition i).length_bytes (many i) (length tail - (n - place i)) 0 (place i)) ∙ told.states
-
-  -- entry k
-  module _ {k : ℕ} (f : k < t.entries) where
-    pub in-room : from + (4 + t.edition.wide) * k + (4 + t.edition.wide) ≤ length tail
-    in-room =
-        let size = 4 + t.edition.wide in
-        go (size * k) (size * suc k) (size * t.entries) (mul-suc size k) (mul-le-mul_left size f) fills in_reach
-      where
-        go : (a b c : ℕ) → b ≡ a + (4 + t.edition.wide) → b ≤ c → t.place + c + trailer_size ≡ n → n - t.place ≤ length tail
-            → length tail - (n - t.place) + a + (4 + t.edition.wide) ≤ length tail
-        go a b c p q r z = omega arith
-
-    pub in_is : (start size : ℕ) → start ≡ number_at tail (from + (4 + t.edition.wide) * k) 4
-        → size ≡ number_at tail (from + (4 + t.edition.wide) * k + 4) t.edition.wide
-        → record { start = start; length = size } ≡ entry_in (lengths_by (index_in n tail)) k
-    in_is start size a b =
-        let p = from + (4 + t.edition.wide) * k in
-        let ns = h.found.lengths in
-        let room = in-room in
-        let narrow = in_narrow in
-        let nth = entries_nth tail t.edition.wide t.entries from 0 t.place ns k states f in
-        let first : start ≡ total (take k ns)
-        = a ∙ number_there tail p 4 (omega arith) (omega arith) ∙ nth.start ∙ zero-add (total (take k ns)) in
-        let long : size ≡ get_or ns k 0
-        = b ∙ number_there tail (p + 4) t.edition.wide (omega arith) (omega arith) ∙ nth.size in
-        (λ i. record { start = first i; length = long i }) ∙ ap (λ (l : List ℕ). entry_in l k) (sym (ap lengths_by h.is))
 
   -- the answers
   module _ (k : ℕ) where
@@ -171,9 +144,9 @@ module _ {n : ℕ} {tail : List ℕ} {t : Trailer} (h : StatedIn n tail t) where
     in-none e =
         let c = many in sym (asked ∙ simp (le-ltb k (length h.found.lengths) (omega arith)))
 
-    module _ (f : k < t.entries) {m : Placed} (is : m ≡ entry_in (lengths_by (index_in n tail)) k) where
+    module _ (f : k < t.entries) {m : Placed} (is : m ≡ entry_at n tail t k) where
       named : m ≡ entry_in h.found.lengths k
-      named = is ∙ ap (λ (a : Answer (Reached Index)). entry_in (lengths_by a) k) h.is
+      named = is ∙ entry_nth n tail t trailing f h.found.lengths states
 
       most : h.found.edition.most ≡ t.edition.most
       most = ap (λ (x : E.Edition). x.most) edition
@@ -203,10 +176,10 @@ module _ {n : ℕ} {tail : List ℕ} {t : Trailer} (h : StatedIn n tail t) where
           (ap (λ (p : Placed). fine (there (record { start = p.start; size = p.length }))) (sym named)))
 
 -- it is not right, or not reached
-module _ (n : ℕ) (tail : List ℕ) (k : ℕ) {w : D.Reached} (says : reached_as w ≡ summed_in (index_in n tail)) where
-  pub in_wrong : w ≡ Wrong → refused 18 0 ≡ asking_in n tail k
+module _ (n : ℕ) (tail : List ℕ) (k : ℕ) where
+  pub in_wrong : refused 18 0 ≡ summed_in (index_in n tail) → refused 18 0 ≡ asking_in n tail k
   unfolding asking_in
-  in_wrong is = go (index_in n tail) refl (sym says ∙ ap reached_as is)
+  in_wrong says = go (index_in n tail) refl (sym says)
     where
       go : (a : Answer (Reached Index)) → index_in n tail ≡ a → summed_in a ≡ refused 18 0 → refused 18 0 ≡ asking_in n tail k
       go (fine (there i)) q e = absurd (not_fine (sym e))
@@ -214,9 +187,9 @@ module _ (n : ℕ) (tail : List ℕ) (k : ℕ) {w : D.Reached} (says : reached_a
       go (refused j p) q e =
           let a : 18 ≡ j = cc in let b : 0 ≡ p = cc in ap₂ (λ (x y : ℕ). refused x y) a b ∙ sym (simp q)
 
-  pub in_wanted : {v : ℕ} → w ≡ Wanted v → fine (wanted v) ≡ asking_in n tail k
+  pub in_wanted : {v : ℕ} → fine (wanted v) ≡ summed_in (index_in n tail) → fine (wanted v) ≡ asking_in n tail k
   unfolding asking_in
-  in_wanted {v} is = go (index_in n tail) refl (sym says ∙ ap reached_as is)
+  in_wanted {v} says = go (index_in n tail) refl (sym says)
     where
       go : (a : Answer (Reached Index)) → index_in n tail ≡ a → summed_in a ≡ fine (wanted v) → fine (wanted v) ≡ asking_in n tail k
       go (fine (there i)) q e = absurd (not_there (sym (fine_eq e)))

@@ -1,14 +1,17 @@
 -- Asking for message k of a file of which the last bytes are had (02, Ticket 1): where it stands, or how many of the
 -- file's last bytes are wanted.
-use Rattle.std.specs.Prelude.{ℕ, ◌≡◌, List, [], leb, ltb, length}
-use Rattle.sim0mq.specs.Answer.{Answer, fine, refused, ◌>>=◌, ◌>>◌, guard}
+use Rattle.std.specs.Prelude.{ℕ, ◌≡◌, List, leb, ltb, length, Result}
+use Rattle.sim0mq.specs.Answer.{Answer, fine, ◌>>=◌, ◌>>◌, guard}
+use Rattle.sim0mq.specs.Views.{said_as}
+use Rattle.sim0mq.specs.declared.Refusal.{Refusal}
 use Rattle.recordings_format.specs.Judge as J
 use Rattle.recordings_format.specs.Judge.{Index, placed_in}
 use Rattle.recordings_index.specs.Tail.{Reached, there, wanted, index_in}
 use Rattle.recordings_index.specs.Index.{trailer_as, summary}
 use Rattle.recordings_index.specs.declared.Trailer.{Trailer}
+use Rattle.recordings.specs.Recordings.{placed_as}
 use Rattle.recordings_reaching.specs.declared.Reaching.{Reaching}
-use Rattle.recordings_reaching.specs.declared.Reaching.TheVariants.{At, Wanted, Refused}
+use Rattle.recordings_reaching.specs.declared.Reaching.TheVariants.{At, Wanted}
 
 -- Go on with what was reached, or ask for more.
 abbrev pub on_reached : {A B : Type 0} → Reached A → (A → Answer (Reached B)) → Answer (Reached B)
@@ -30,19 +33,15 @@ asking_in n tail k = do
   on_reached r (λ i. placing i k)
 
 -- Each answer of the code, as the definitions have it.
-abbrev pub reaching_as : Reaching → Answer (Reached J.Placed)
-reaching_as (At p) = fine (there (record { start = p.start; size = p.length }))
-reaching_as (Wanted w) = fine (wanted w)
-reaching_as (Refused r) = refused r.number r.place
+abbrev pub reached_of : Reaching → Reached J.Placed
+reached_of (At p) = there (placed_as p)
+reached_of (Wanted w) = wanted w
+
+abbrev pub reaching_as : Result Reaching Refusal → Answer (Reached J.Placed)
+reaching_as r = said_as reached_of r
 
 -- Trailer and index are right by these last bytes, and this is the trailer.
 pub record StatedIn (n : ℕ) (tail : List ℕ) (t : Trailer) : Type 0 where
   pub found : Index
   pub is : index_in n tail ≡ fine (there found)
   pub says : summary found ≡ trailer_as t
-
--- The lengths that the index states; none where it was not reached or is not right.
-abbrev pub lengths_by : Answer (Reached Index) → List ℕ
-lengths_by (fine (there i)) = i.lengths
-lengths_by (fine (wanted w)) = []
-lengths_by (refused k p) = []

@@ -10,13 +10,9 @@ use lib.ListN.{length, take, drop, length-append, length-take}
 use lib.Seq.{take_at, drop_at, length-take-le}
 use lib.Dec.{leb}
 use borrow.Author.Tests.{leb-true}
-use Rattle.sim0mq.specs.Answer.{fine, refused}
+use Rattle.sim0mq.specs.Answer.{Answer, fine, refused}
 use Rattle.sim0mq.specs.Message.{limit}
 use Rattle.sim0mq.specs.Table.{stored, placed}
-use Rattle.sim0mq.specs.Views.{judged}
-use Rattle.sim0mq.specs.declared.Judged.{Judged}
-use Rattle.sim0mq.specs.declared.Judged.TheVariants.{Accepted as Judged-as-Accepted, Refused as Judged-as-Refused}
-use Rattle.sim0mq.specs.declared.Refusal.{Refusal}
 use Rattle.sim0mq.proofs.Answers.{not_fine, fine_eq}
 use Rattle.sim0mq.proofs.PlaceLaws.{placed_length}
 use Rattle.sim0mq_buffers.specs.Placing.{put_in}
@@ -24,7 +20,8 @@ use Rattle.sim0mq_buffers.proofs.PlaceLaws.{put_fits}
 use Rattle.writing_opening.specs.Opening.{buffer_after}
 use Rattle.dividing.specs.Run.{Run, run_from, stretches, total}
 use Rattle.dividing.proofs.RunLaws.{run_is}
-use Rattle.recordings_fronts.specs.Fronts.{divided_of}
+use Rattle.recordings_fronts.specs.Fronts as F
+use Rattle.recordings_fronts.specs.Fronts.{divided_as, divided_of}
 use Rattle.recordings_fronts.specs.declared.Divided.{Divided}
 use Rattle.recordings_format.specs.Edition.{newest, most_messages}
 use Rattle.recordings_format.specs.Text.{tail_text}
@@ -33,8 +30,7 @@ use Rattle.recordings_format.proofs.SoundLaws.{stretches_long}
 use Rattle.recordings_tails.specs.Tails.{room_for, tailing, length_after}
 use Rattle.recordings_tails.proofs.TailLaws.{taken_come, tailing-room}
 use Rattle.recordings_salvaging.specs.Salvage.{rescued, salvage_text, report, salvage, output_after}
-use Rattle.recordings_salvaging.specs.Saving.{salvaged_as, Saveable}
-use Rattle.recordings_salvaging.specs.declared.Salvaged.TheVariants.{Saved, Refused}
+use Rattle.recordings_salvaging.specs.Saving.{report_as, Saveable}
 
 -- a text put before the one that stands where it ends
 before_tail : (out one front tail : List ℕ) (end : ℕ) → length front ≡ end → one ≡ placed out end tail
@@ -57,18 +53,18 @@ before_tail out one front tail end long is fits =
 
 -- what dividing the file found
 pub save_found : (s : List ℕ) (d : Divided) (many : ℕ) (kept₀ kept : List ℕ) → many ≡ most_messages
-    → d ≡ divided_of (run_from limit many s 0) → kept ≡ stored kept₀ (run_from limit many s 0).lengths → Saveable s d kept
+    → divided_as d ≡ divided_of (run_from limit many s 0) → kept ≡ stored kept₀ (run_from limit many s 0).lengths → Saveable s d kept
 unfolding stored
 save_found s d many kept₀ kept m e k =
     let same : run_from limit many s 0 ≡ rescued newest s
     = ap₂ (λ (n j : ℕ). run_from n j s 0) (sym newest_most) m in
-    let says : d ≡ divided_of (rescued newest s) = e ∙ ap divided_of same in
+    let says : divided_as d ≡ divided_of (rescued newest s) = e ∙ ap divided_of same in
     let ns = (rescued newest s).lengths in
     record {
       says = says;
       kept =
           ap (take d.count) (k ∙ ap (λ (r : Run). r.lengths ++ drop (length r.lengths) kept₀) same)
-          ∙ take_at ns (drop (length ns) kept₀) d.count (sym (ap (λ (x : Divided). x.count) says));
+          ∙ take_at ns (drop (length ns) kept₀) d.count (sym (ap (λ (x : F.Divided). x.count) says));
     }
 
 module _ {s : List ℕ} {d : Divided} {lengths : List ℕ} (v : Saveable s d lengths) where
@@ -76,10 +72,10 @@ module _ {s : List ℕ} {d : Divided} {lengths : List ℕ} (v : Saveable s d len
   ns = (rescued newest s).lengths
 
   counted : d.count ≡ length ns
-  counted = ap (λ (x : Divided). x.count) v.says
+  counted = ap (λ (x : F.Divided). x.count) v.says
 
   ended : d.end ≡ total ns
-  ended = ap (λ (x : Divided). x.end) v.says
+  ended = ap (λ (x : F.Divided). x.end) v.says
 
   pub save_within : d.end ≤ length s
   save_within = let e = ended in omega (arith, (run_is newest.most most_messages s 0 (omega arith)).within)
@@ -128,59 +124,58 @@ module _ {s : List ℕ} {d : Divided} {lengths : List ℕ} (v : Saveable s d len
     short h = (tail-is ∙ simp h, simp (text_long, h))
 
   -- what putting the tail answered, and the buffer then
-  module _ (out : List ℕ) {one : List ℕ} {j : Judged}
-      (said : judged j ≡ length_after d.end (tailing newest (take d.count lengths) d.end (length out)))
+  module _ (out : List ℕ) {one : List ℕ}
       (left : one ≡ buffer_after out d.end (tailing newest (take d.count lengths) d.end (length out))) where
-    pub save-refused : {r : Refusal} → j ≡ Judged-as-Refused r
-        → (Refused r ≡ salvaged_as (salvage newest (length out) s))
-        × (one ≡ output_after newest s out (salvage newest (length out) s))
+    abbrev tail : Answer (List ℕ)
+    tail = tailing newest (take d.count lengths) d.end (length out)
+
+    pub save-refused : {k p : ℕ} → refused k p ≡ length_after d.end tail
+        → (refused k p ≡ salvage newest (length out) s) × (one ≡ output_after newest s out (salvage newest (length out) s))
     unfolding output_after
-    save-refused {r} e = go (roomy (length out)) refl
+    save-refused {k} {p} said = go (roomy (length out)) refl
       where
         go : (t : Bool) → roomy (length out) ≡ t
-            → (Refused r ≡ salvaged_as (salvage newest (length out) s))
+            → (refused k p ≡ salvage newest (length out) s)
             × (one ≡ output_after newest s out (salvage newest (length out) s))
         go true h =
             let g = granted (length out) h in
-            absurd (not_fine (sym (ap judged e) ∙ said ∙ ap (length_after d.end) g.0))
+            absurd (not_fine (said ∙ ap (length_after d.end) g.0))
         go false h =
             let g = short (length out) h in
-            let same : refused r.number r.place ≡ refused 14 0
-            = sym (ap judged e) ∙ said ∙ ap (length_after d.end) g.0 in
-            let number : r.number ≡ 14 = cc in
-            let place : r.place ≡ 0 = cc in (
-              (λ i. Refused (record { number = number i; place = place i })) ∙ sym (ap salvaged_as g.1),
+            let same : ◌≡◌ {A = Answer ℕ} (refused k p) (refused 14 0) = said ∙ ap (length_after d.end) g.0 in
+            let number : k ≡ 14 = cc in
+            let place : p ≡ 0 = cc in (
+              ap₂ refused number place ∙ sym g.1,
               left ∙ ap (buffer_after out d.end) g.0 ∙ sym (ap (output_after newest s out) g.1),
             )
 
-    pub save-saved : {n : ℕ} {two : List ℕ} → j ≡ Judged-as-Accepted n → two ≡ put_in one 0 (take d.end s)
-        → (Saved (record { length = n; kept = d.count; dropped = length s - d.end; stop = d.stop })
-        ≡ salvaged_as (salvage newest (length out) s))
+    pub save-saved : {n : ℕ} {two : List ℕ} → fine n ≡ length_after d.end tail → two ≡ put_in one 0 (take d.end s)
+        → (fine (report_as (record { length = n; kept = d.count; dropped = length s - d.end; stop = d.stop }))
+        ≡ salvage newest (length out) s)
         × (two ≡ output_after newest s out (salvage newest (length out) s))
     unfolding output_after report
-    save-saved {n} {two} e put = go (roomy (length out)) refl
+    save-saved {n} {two} said put = go (roomy (length out)) refl
       where
         go : (t : Bool) → roomy (length out) ≡ t
-            → (Saved (record { length = n; kept = d.count; dropped = length s - d.end; stop = d.stop })
-            ≡ salvaged_as (salvage newest (length out) s))
+            → (fine (report_as (record { length = n; kept = d.count; dropped = length s - d.end; stop = d.stop }))
+            ≡ salvage newest (length out) s)
             × (two ≡ output_after newest s out (salvage newest (length out) s))
         go false h =
             let g = short (length out) h in
-            absurd (not_fine (sym (sym (ap judged e) ∙ said ∙ ap (length_after d.end) g.0)))
+            absurd (not_fine (sym (said ∙ ap (length_after d.end) g.0)))
         go true h =
             let g = granted (length out) h in
             let fits = leb-true (d.end + length (tail_text newest ns)) (length out) h in
-            let tail : one ≡ placed out d.end (tail_text newest ns) = left ∙ ap (buffer_after out d.end) g.0 in
+            let placed_tail : one ≡ placed out d.end (tail_text newest ns) = left ∙ ap (buffer_after out d.end) g.0 in
             let long : length (take d.end s) ≡ d.end = length-take-le d.end s save_within in
-            let sized : n ≡ length (salvage_text newest s)
-            = fine_eq (sym (ap judged e) ∙ said ∙ ap (length_after d.end) g.0) ∙ sym text_long in
+            let sized : n ≡ length (salvage_text newest s) = fine_eq (said ∙ ap (length_after d.end) g.0) ∙ sym text_long in
             let whole : two ≡ stored out (salvage_text newest s)
             =
             put
-            ∙ before_tail out one (take d.end s) (tail_text newest ns) d.end long tail fits
+            ∙ before_tail out one (take d.end s) (tail_text newest ns) d.end long placed_tail fits
             ∙ ap (stored out) (sym text_is) in (
               (λ i.
-                  Saved (record { length = sized i; kept = counted i; dropped = length s - ended i; stop = (v.says i).stop }))
-                  ∙ sym (ap salvaged_as g.1),
+                  fine (record { bytes = sized i; kept = counted i; dropped = length s - ended i; stop = (v.says i).stop }))
+                  ∙ sym g.1,
               whole ∙ sym (ap (output_after newest s out) g.1),
             )

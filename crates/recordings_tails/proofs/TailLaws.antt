@@ -232,26 +232,16 @@ taken_come e ms ns at each lengths ends =
     simp (brief, eq-eqb (total ns) at ends)
 
 -- how a tail is judged
-module _ (e : Edition) (ns : List ℕ) (at room : ℕ) where
-  pub tailing_many : most_messages < length ns → tailing e ns at room ≡ refused 15 0
+module _ (e : Edition) (ns : List ℕ) (at room : ℕ) (few : length ns ≤ most_messages) (ends : come e ns at ≡ true) where
+  pub tailing-room : tailing e ns at room ≡ room_for at room (tail_text e ns)
   unfolding tailing
-  tailing_many h = simp (lt-leb (length ns) most_messages h)
+  tailing-room = simp (le-leb (length ns) most_messages few, ends)
 
-  module _ (few : length ns ≤ most_messages) where
-    pub tailing-elsewhere : come e ns at ≡ false → tailing e ns at room ≡ refused 15 0
-    unfolding tailing
-    tailing-elsewhere other = simp (le-leb (length ns) most_messages few, other)
+  pub tailing-over : room < at + (entry_size e * length ns + trailer_size) → tailing e ns at room ≡ refused 14 0
+  tailing-over h = tailing-room ∙ room_over at room (tail_text e ns) (omega (arith, tail_long e ns))
 
-    module _ (ends : come e ns at ≡ true) where
-      pub tailing-room : tailing e ns at room ≡ room_for at room (tail_text e ns)
-      unfolding tailing
-      tailing-room = simp (le-leb (length ns) most_messages few, ends)
-
-      pub tailing-over : room < at + (entry_size e * length ns + trailer_size) → tailing e ns at room ≡ refused 14 0
-      tailing-over h = tailing-room ∙ room_over at room (tail_text e ns) (omega (arith, tail_long e ns))
-
-      tailing-fits : at + (entry_size e * length ns + trailer_size) ≤ room → tailing e ns at room ≡ fine (tail_text e ns)
-      tailing-fits h = tailing-room ∙ room_fits at room (tail_text e ns) (omega (arith, tail_long e ns))
+  tailing-fits : at + (entry_size e * length ns + trailer_size) ≤ room → tailing e ns at room ≡ fine (tail_text e ns)
+  tailing-fits h = tailing-room ∙ room_fits at room (tail_text e ns) (omega (arith, tail_long e ns))
 
 -- a tail that was refused leaves the buffer
 pub tail_refused : (out : List ℕ) (at : ℕ) (a : Answer (List ℕ)) (k p : ℕ) (said : Answer ℕ) → a ≡ refused k p

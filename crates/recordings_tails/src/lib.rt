@@ -10,7 +10,7 @@ ghost use Rattle.recordings_format.specs.Text.{entry_text, index_text, trailer_t
 ghost use Rattle.recordings_tails.specs.Tails.{come, Indexable, tailing, length_after};
 
 use recordings_format::{ENTRY, LENGTH_BYTES, MOST, NEWEST, TRAILER};
-use sim0mq::{Judged, LIMIT};
+use sim0mq::{LIMIT, Reason, Refusal, refuse};
 use sim0mq_numbers::wide32;
 use writing_puts::put_big;
 
@@ -19,9 +19,8 @@ fn come_to(lengths: &[u32], at: usize) -> bool
     ensures { result ≡ come newest lengths.now at }
 {
     let mut left = at;
-    let mut k: usize = 0;
-    while k < lengths.len() {
-        let size = wide32(lengths[k]);
+    for length in lengths {
+        let size = wide32(*length);
         if LIMIT < size {
             return false;
         }
@@ -29,7 +28,6 @@ fn come_to(lengths: &[u32], at: usize) -> bool
             return false;
         }
         left -= size;
-        k += 1;
     }
     left == 0
 }
@@ -50,17 +48,16 @@ fn put_index(lengths: &[u32], out: &mut [u8], at: usize)
 {
     let mut p = at;
     let mut start: usize = 0;
-    let mut k: usize = 0;
-    while k < lengths.len() {
-        let size = wide32(lengths[k]);
+    for length in lengths {
+        let size = wide32(*length);
         put_entry(out, p, start, size);
         start += size;
         p += ENTRY;
-        k += 1;
     }
 }
 
 // Puts the trailer of n entries, the first of which is at `place`, in `out` from p on.
+#[tactic(auto, unfolding(recordings_format::specs::Edition::trailer_size))]
 fn put_trailer(out: &mut [u8], p: usize, place: usize, n: usize)
     requires { p + trailer_size ≤ length out.old }
     ensures { out.new ≡ placed out.old p (trailer_text newest place n) }
@@ -73,26 +70,27 @@ fn put_trailer(out: &mut [u8], p: usize, place: usize, n: usize)
 // Puts the index and the trailer of messages of these lengths, which end at `at`, in `out` from there on: the whole
 // length. Or 15 at 0, where the lengths are too many, one is too long or they do not come to `at`, then 14 at 0, where
 // `out` has no room; refused, `out` is as it was.
-pub fn put_tail(lengths: &[u32], out: &mut [u8], at: usize) -> Judged
+#[tactic(auto, unfolding(crate::specs::Tails::tailing, crate::specs::Tails::room_for, recordings_format::specs::Edition::most_messages, recordings_format::specs::Edition::trailer_size))]
+pub fn put_tail(lengths: &[u32], out: &mut [u8], at: usize) -> Result<usize, Refusal>
     ensures answer { judged result ≡ length_after at (tailing newest lengths.now at (length out.old)) }
     ensures written { out.new
         ≡ buffer_after out.old at (tailing newest lengths.now at (length out.old)) }
 {
     let n = lengths.len();
     if MOST < n {
-        return sim0mq::refuse(15, 0);
+        return refuse(Reason::State, 0);
     }
     if !come_to(lengths, at) {
-        return sim0mq::refuse(15, 0);
+        return refuse(Reason::State, 0);
     }
     if out.len() < at {
-        return sim0mq::refuse(14, 0);
+        return refuse(Reason::TooShort, 0);
     }
     if out.len() - at < ENTRY * n + TRAILER {
-        return sim0mq::refuse(14, 0);
+        return refuse(Reason::TooShort, 0);
     }
     put_index(lengths, out, at);
     let end = at + ENTRY * n;
     put_trailer(out, end, at, n);
-    Judged::Accepted(end + TRAILER)
+    Ok(end + TRAILER)
 }

@@ -10,48 +10,28 @@ use borrow.Author.Tests.{eq-eqb, ne_eqb}
 use Rattle.sim0mq.specs.Answer.{Answer, fine, refused}
 use Rattle.sim0mq.specs.Table.{stored}
 use Rattle.sim0mq.specs.Message.{limit}
-use Rattle.sim0mq.specs.declared.Judged.{Judged}
-use Rattle.sim0mq.specs.declared.Judged.TheVariants.{Accepted as Judged-as-Accepted, Refused as Judged-as-Refused}
-use Rattle.sim0mq.specs.Views.{judged}
-use Rattle.sim0mq.specs.declared.Refusal.{Refusal}
 use Rattle.sim0mq.proofs.Answers.{not_fine, fine_eq}
-use Rattle.writing_opening.specs.Opening.{buffer_after}
 use Rattle.dividing.specs.Run as Run
 use Rattle.dividing.specs.Run.{run_from}
-use Rattle.recordings_fronts.specs.Fronts.{stop_of, divided_of}
+use Rattle.recordings_fronts.specs.Fronts as F
+use Rattle.recordings_fronts.specs.Fronts.{stop_of, divided_as, divided_of}
 use Rattle.recordings_fronts.specs.declared.Divided.{Divided}
+use Rattle.recordings_fronts.specs.declared.Stop.{Stop}
 use Rattle.recordings_fronts.specs.declared.Stop.TheVariants.{AtEnd, AtMost, AtFault}
 use Rattle.recordings_format.specs.Edition.{newest, most_messages}
 use Rattle.recordings_format.specs.Text.{tail_text}
 use Rattle.recordings_format.proofs.EditionLaws.{newest_most}
 use Rattle.recordings_tails.specs.Tails.{room_for, come, tailing, length_after}
 use Rattle.recordings_tails.proofs.TailLaws.{taken_come, tailing-room}
-use Rattle.recordings_writing.specs.Recorder.{usable, ended, written_run, found, closing, after_adding, after_closing}
+use Rattle.recordings_writing.specs.Recorder.{usable, ended, written_run, found, closing, closed_by}
 use Rattle.recordings_writing.specs.declared.Recorder.{Recorder}
-use Rattle.recordings_writing.specs.declared.Recorded.{Recorded}
 use Rattle.recordings_writing.proofs.StateLaws.{usable_true, run_divides}
 
--- what a call tells of an answer, it tells of the one that is the same
-pub told_closed : (w : Recorder) (out last : List ℕ) (r : Recorded) (a b : Answer (List ℕ)) → a ≡ b → r ≡ after_closing w b
-    → last ≡ buffer_after out w.written b → (r ≡ after_closing w a) × (last ≡ buffer_after out w.written a)
-told_closed w out last r a b e said left =
-    (said ∙ sym (ap (after_closing w) e), left ∙ sym (ap (buffer_after out w.written) e))
-
--- how a run stopped, as the code has it
-is_ended : (s : Run.Stop) → stop_of s ≡ AtEnd → ended s ≡ true
-is_ended Run.at_end e = refl
-is_ended Run.at_most e = let z : ◌≡◌ {A = ℕ} 0 1 = cc in absurd (omega arith)
-is_ended (Run.at_fault k p) e = let z : ◌≡◌ {A = ℕ} 0 1 = cc in absurd (omega arith)
-
-is_most : (s : Run.Stop) → stop_of s ≡ AtMost → ended s ≡ false
-is_most Run.at_end e = let z : ◌≡◌ {A = ℕ} 0 1 = cc in absurd (omega arith)
-is_most Run.at_most e = refl
-is_most (Run.at_fault k p) e = refl
-
-is_fault : (s : Run.Stop) (r : Refusal) → stop_of s ≡ AtFault r → ended s ≡ false
-is_fault Run.at_end r e = let z : ◌≡◌ {A = ℕ} 0 1 = cc in absurd (omega arith)
-is_fault Run.at_most r e = refl
-is_fault (Run.at_fault k p) r e = refl
+-- a division that did not come to the end
+not_ended : (s : Stop) → (s ≡ AtEnd → ⊥) → ended (stop_of s) ≡ false
+not_ended AtEnd h = absurd (h refl)
+not_ended AtMost h = refl
+not_ended (AtFault r) h = refl
 
 -- closing: d is what dividing the bytes written answered
 module _ (w : Recorder) (out : List ℕ) where
@@ -60,15 +40,15 @@ module _ (w : Recorder) (out : List ℕ) where
   closing_state e = simp e
 
   module _ (good : usable w (length out) ≡ true) (many : ℕ) (most : many ≡ most_messages) (d : Divided)
-      (says : d ≡ divided_of (run_from limit many (take w.written out) 0)) where
+      (says : divided_as d ≡ divided_of (run_from limit many (take w.written out) 0)) where
     same : run_from limit many (take w.written out) 0 ≡ written_run newest w out
     same = ap₂ (λ (n k : ℕ). run_from n k (take w.written out) 0) (sym newest_most) most
 
     counted : d.count ≡ length (written_run newest w out).lengths
-    counted = ap (λ (x : Divided). x.count) (says ∙ ap divided_of same)
+    counted = ap (λ (x : F.Divided). x.count) (says ∙ ap divided_of same)
 
-    stops : stop_of (written_run newest w out).stop ≡ d.stop
-    stops = sym (ap (λ (x : Divided). x.stop) (says ∙ ap divided_of same))
+    stops : stop_of d.stop ≡ (written_run newest w out).stop
+    stops = ap (λ (x : F.Divided). x.stop) (says ∙ ap divided_of same)
 
     not_found : found newest w out ≡ refused 15 0 → closing newest w out ≡ refused 15 0
     unfolding closing
@@ -82,19 +62,15 @@ module _ (w : Recorder) (out : List ℕ) where
         go true e = simp (e, ne_eqb (length (written_run newest w out).lengths) w.messages (λ z. h (counted ∙ z)))
         go false e = simp e
 
-    pub closing-most : d.stop ≡ AtMost → closing newest w out ≡ refused 15 0
+    pub closing-stopped : (d.stop ≡ AtEnd → ⊥) → closing newest w out ≡ refused 15 0
     unfolding found
-    closing-most e = not_found (simp (is_most (written_run newest w out).stop (stops ∙ e)))
-
-    pub closing-fault : (r : Refusal) → d.stop ≡ AtFault r → closing newest w out ≡ refused 15 0
-    unfolding found
-    closing-fault r e = not_found (simp (is_fault (written_run newest w out).stop r (stops ∙ e)))
+    closing-stopped h = not_found (simp (sym (ap ended stops) ∙ not_ended d.stop h))
 
     -- at the end the lengths kept are those of the messages, and come to what was written
     module _ (e : d.stop ≡ AtEnd) (n : d.count ≡ w.messages) (kept₀ kept : List ℕ)
         (k : kept ≡ stored kept₀ (run_from limit many (take w.written out) 0).lengths) where
       end : ended (written_run newest w out).stop ≡ true
-      end = is_ended (written_run newest w out).stop (stops ∙ e)
+      end = sym (ap ended stops) ∙ ap (λ (x : Stop). ended (stop_of x)) e
 
       kept-is : kept ≡ (written_run newest w out).lengths ++ drop (length (written_run newest w out).lengths) kept₀
       unfolding stored
@@ -123,26 +99,20 @@ module _ (w : Recorder) (out : List ℕ) where
           ∙ sym (tailing-room newest ns w.written (length out) d.few comes)
           ∙ ap (λ (l : List ℕ). tailing newest l w.written (length out)) kept_here
 
--- finishing: j is what putting the tail of messages of these lengths answered
-module _ (w : Recorder) (ns out : List ℕ) (j : Judged)
-    (told : judged j ≡ length_after w.written (tailing newest ns w.written (length out))) where
-  pub finish_refused : (r : Refusal) → j ≡ Judged-as-Refused r
-      → after_adding w (refused r.number r.place) ≡ after_closing w (tailing newest ns w.written (length out))
-  finish_refused r e = go (tailing newest ns w.written (length out)) (sym (ap judged e) ∙ told)
+-- the state after a tail that was put, or its refusal
+module _ (w : Recorder) (a : Answer (List ℕ)) where
+  pub finish_refused : {k p : ℕ} → refused k p ≡ length_after w.written a → refused k p ≡ closed_by w a
+  finish_refused {k} {p} e = go a e
     where
-      go : (a : Answer (List ℕ)) → refused r.number r.place ≡ length_after w.written a
-          → after_adding w (refused r.number r.place) ≡ after_closing w a
+      go : (x : Answer (List ℕ)) → refused k p ≡ length_after w.written x → refused k p ≡ closed_by w x
       go (fine text) q = absurd (not_fine q)
-      go (refused k p) q =
-          let same : ◌≡◌ {A = Answer (List ℕ)} (refused r.number r.place) (refused k p) = cc in ap (after_closing w) same
+      go (refused j v) q = cc
 
-  abbrev pub closed : ℕ → Recorded
-  closed k = record { said = Judged-as-Accepted k; recorder = record { written = k; messages = w.messages; closed = true } }
-
-  pub finish_closed : (n : ℕ) → j ≡ Judged-as-Accepted n
-      → closed n ≡ after_closing w (tailing newest ns w.written (length out))
-  finish_closed n e = go (tailing newest ns w.written (length out)) (sym (ap judged e) ∙ told)
+  pub finish_closed : (n : ℕ) → fine n ≡ length_after w.written a
+      → fine (record { written = n; messages = w.messages; closed = true }) ≡ closed_by w a
+  finish_closed n e = go a e
     where
-      go : (a : Answer (List ℕ)) → fine n ≡ length_after w.written a → closed n ≡ after_closing w a
-      go (fine text) q = ap closed (fine_eq q)
+      go : (x : Answer (List ℕ)) → fine n ≡ length_after w.written x
+          → fine (record { written = n; messages = w.messages; closed = true }) ≡ closed_by w x
+      go (fine text) q = ap (λ (k : ℕ). fine (record { written = k; messages = w.messages; closed = true })) (fine_eq q)
       go (refused k p) q = absurd (not_fine (sym q))

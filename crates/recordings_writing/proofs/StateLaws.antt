@@ -12,15 +12,16 @@ use borrow.Author.Tests.{leb-true, ltb-true, eqb-true, not-true, lt-ltb, le-ltb}
 use Rattle.sim0mq.specs.Answer.{Answer, fine, refused}
 use Rattle.sim0mq.specs.Table.{placed}
 use Rattle.sim0mq.specs.Message.{no_table, message, reading}
+use Rattle.std.specs.Prelude.{Ok, Err}
+use Rattle.sim0mq.specs.Views.{number_of}
 use Rattle.sim0mq.specs.declared.Refusal.{Refusal}
 use Rattle.sim0mq.specs.Allowed.{Each, joined}
 use Rattle.sim0mq.proofs.Answers.{guarded, bind_fine, fine_eq, and_true}
 use Rattle.writing_opening.specs.Opening.{buffer_after}
-use Rattle.reading.specs.Answers.{answered}
-use Rattle.reading.proofs.SaidLaws.{said_fine, said_refused}
+use Rattle.reading.specs.Answers.{answer_as, answered}
+use Rattle.reading.proofs.SaidLaws.{found_at, fault_at}
 use Rattle.reading.specs.declared.Answer as R
 use Rattle.reading.specs.declared.Found.{Found}
-use Rattle.reading.specs.declared.Reading.TheVariants.{Accepted, Refused}
 use Rattle.dividing.specs.Front.{Taken}
 use Rattle.dividing.specs.Run.{Stop, at_end, at_most, at_fault, run_from, stretches, total}
 use Rattle.dividing.specs.Promises.{StoppedFor}
@@ -31,24 +32,12 @@ use Rattle.recordings_format.proofs.EditionLaws.{newest_most}
 use Rattle.recordings_format.proofs.SoundLaws.{stretches_long}
 use Rattle.recordings_tails.specs.Tails.{room_for}
 use Rattle.recordings_writing.specs.declared.Recorder.{Recorder}
-use Rattle.recordings_writing.specs.declared.Recorded.{Recorded}
-use Rattle.recordings_writing.specs.Recorder.{usable, adding, ended, written_run, found, closing, after_adding}
+use Rattle.recordings_writing.specs.Recorder.{usable, adding, ended, written_run, found, closing}
 
 -- what a call tells of an answer, it tells of the one that is the same
-pub told_added : (w : Recorder) (out last : List ℕ) (r : Recorded) (a b : Answer (List ℕ)) → a ≡ b → r ≡ after_adding w b
-    → last ≡ buffer_after out w.written b → (r ≡ after_adding w a) × (last ≡ buffer_after out w.written a)
-told_added w out last r a b e said left =
-    (said ∙ sym (ap (after_adding w) e), left ∙ sym (ap (buffer_after out w.written) e))
-
--- the state
-module _ (w : Recorder) (room : ℕ) where
-  pub usable_closed : w.closed ≡ true → false ≡ usable w room
-  unfolding usable
-  usable_closed e = sym (simp e)
-
-  pub usable_open : w.closed ≡ false → leb w.written room ≡ usable w room
-  unfolding usable
-  usable_open e = sym (simp e)
+pub told : (f : Answer (List ℕ) → Answer Recorder) (out last : List ℕ) (at : ℕ) (r : Answer Recorder) {a b : Answer (List ℕ)} → a ≡ b
+    → r ≡ f b → last ≡ buffer_after out at b → (r ≡ f a) × (last ≡ buffer_after out at a)
+told f out last at r e said left = (said ∙ sym (ap f e), left ∙ sym (ap (buffer_after out at) e))
 
 -- adding: a is what judging the message answered
 module _ (w : Recorder) (room : ℕ) (m : List ℕ) where
@@ -61,23 +50,20 @@ module _ (w : Recorder) (room : ℕ) (m : List ℕ) where
     unfolding adding
     adding-many h = simp (good, le-ltb w.messages most_messages h)
 
-    module _ (few : w.messages < most_messages) (a : R.Answer) (told : a ≡ answered (reading no_table m)) where
-      said : (answered (message newest.most no_table m)).said ≡ a.said
+    module _ (few : w.messages < most_messages) (a : R.Answer) (told : answer_as a ≡ answered (reading no_table m)) where
+      read : message newest.most no_table m ≡ reading no_table m
       unfolding reading
-      said =
-          ap (λ (most : ℕ). (answered (message most no_table m)).said) newest_most
-          ∙ ap (λ (x : R.Answer). x.said) (sym told)
+      read = ap (λ (most : ℕ). message most no_table m) newest_most
 
-      pub adding-fault : (r : Refusal) → a.said ≡ Refused r → adding newest w room m ≡ refused r.number r.place
+      pub adding-fault : (r : Refusal) → a.said ≡ Err r → adding newest w room m ≡ refused (number_of r.reason) r.place
       unfolding adding
       adding-fault r e =
-          simp (good, lt-ltb w.messages most_messages few, said_refused (message newest.most no_table m) r (said ∙ e))
+          simp (good, lt-ltb w.messages most_messages few, read ∙ fault_at (reading no_table m) a told r e)
 
-      pub adding_text : (f : Found) → a.said ≡ Accepted f → adding newest w room m ≡ room_for w.written room m
+      pub adding_text : (f : Found) → a.said ≡ Ok f → adding newest w room m ≡ room_for w.written room m
       unfolding adding
       adding_text f e =
-          let taken = said_fine (message newest.most no_table m) f (said ∙ e) in
-          simp (good, lt-ltb w.messages most_messages few, taken.1)
+          simp (good, lt-ltb w.messages most_messages few, read ∙ (found_at (reading no_table m) a told f e).1)
 
 -- the room
 pub room_fine : (written room : ℕ) (text v : List ℕ) → room_for written room text ≡ fine v

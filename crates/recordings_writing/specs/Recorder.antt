@@ -1,10 +1,11 @@
 -- Writing a recording, message by message (02, Ticket 1): what adding and closing answer, and the state that each hands
 -- back. The state is small: how many bytes and messages were written, and whether it is closed. Closing finds the
 -- messages again in the buffer, since they divide it in one way only (Ticket 5).
-use Rattle.std.specs.Prelude.{ℕ, ◌+◌, Bool, true, false, not, ◌&&◌, List, leb, ltb, eqb, length, take}
+use Rattle.std.specs.Prelude.{ℕ, ◌+◌, Bool, true, false, not, ◌&&◌, List, leb, ltb, eqb, length, take, Result}
 use Rattle.sim0mq.specs.Answer.{Answer, fine, refused, ◌>>=◌, ◌>>◌, guard}
 use Rattle.sim0mq.specs.Message.{no_table, message}
-use Rattle.sim0mq.specs.declared.Judged.TheVariants.{Accepted, Refused}
+use Rattle.sim0mq.specs.Views.{said_as}
+use Rattle.sim0mq.specs.declared.Refusal.{Refusal}
 use Rattle.dividing.specs.Run.{Stop, at_end, at_most, at_fault, Run, run_from}
 use Rattle.recordings_format.specs.Edition.{Edition, most_messages}
 use Rattle.recordings_format.specs.Text.{tail_text}
@@ -53,20 +54,34 @@ closing e w out = do
   ns ← found e w out
   room_for w.written (length out) (tail_text e ns)
 
+-- The state after a call that was granted these bytes; or the refusal.
+abbrev pub added : Recorder → Answer (List ℕ) → Answer Recorder
+added w (fine text) = fine (record { written = w.written + length text; messages = w.messages + 1; closed = false })
+added w (refused k p) = refused k p
+
+abbrev pub closed_by : Recorder → Answer (List ℕ) → Answer Recorder
+closed_by w (fine text) = fine (record { written = w.written + length text; messages = w.messages; closed = true })
+closed_by w (refused k p) = refused k p
+
 -- What each call hands back: its answer, which where it is granted is the number of bytes written so far, and the
 -- state. A refused call hands back the state that it took.
-abbrev pub after_adding : Recorder → Answer (List ℕ) → Recorded
-after_adding w (fine text) =
-    record {
-      said = Accepted (w.written + length text);
-      recorder = record { written = w.written + length text; messages = w.messages + 1; closed = false };
-    }
-after_adding w (refused k p) = record { said = Refused (record { number = k; place = p }); recorder = w }
+pub record Told : Type 0 where
+  pub said : Answer ℕ
+  pub recorder : Recorder
 
-abbrev pub after_closing : Recorder → Answer (List ℕ) → Recorded
-after_closing w (fine text) =
-    record {
-      said = Accepted (w.written + length text);
-      recorder = record { written = w.written + length text; messages = w.messages; closed = true };
-    }
-after_closing w (refused k p) = record { said = Refused (record { number = k; place = p }); recorder = w }
+abbrev pub handed_back : Recorder → Answer Recorder → Told
+handed_back w (fine v) = record { said = fine v.written; recorder = v }
+handed_back w (refused k p) = record { said = refused k p; recorder = w }
+
+abbrev pub after_adding : Recorder → Answer (List ℕ) → Told
+after_adding w a = handed_back w (added w a)
+
+abbrev pub after_closing : Recorder → Answer (List ℕ) → Told
+after_closing w a = handed_back w (closed_by w a)
+
+-- The code's answers, as the definitions have them.
+abbrev pub states : Result Recorder Refusal → Answer Recorder
+states r = said_as (λ w. w) r
+
+abbrev pub told_as : Recorded → Told
+told_as r = record { said = said_as (λ n. n) r.said; recorder = r.recorder }

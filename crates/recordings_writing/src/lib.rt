@@ -1,18 +1,16 @@
 // Writing a recording, message by message.
 #![tactic(auto)]
 
-ghost use Rattle.std.specs.Prelude.{◌≡◌, true, ◌≤◌, ◌<◌, length, take};
-ghost use Rattle.sim0mq.specs.Answer.{refused as refusal};
+ghost use Rattle.std.specs.Prelude.{◌≡◌, length};
 ghost use Rattle.writing_opening.specs.Opening.{buffer_after};
-ghost use Rattle.recordings_format.specs.Edition.{newest, most_messages};
-ghost use Rattle.recordings_tails.specs.Tails.{room_for, tailing};
-ghost use Rattle.recordings_writing.specs.Recorder.{empty, usable as usable_in, adding, closing, after_adding, after_closing};
+ghost use Rattle.recordings_format.specs.Edition.{newest};
+ghost use Rattle.recordings_writing.specs.Recorder.{empty, usable as usable_in, adding, closing, added, closed_by, states, handed_back, told_as, after_adding, after_closing};
 
-use reading::{Reading, judge};
+use reading::judge;
 use recordings_format::MOST;
 use recordings_fronts::{Stop, divide};
 use recordings_tails::put_tail;
-use sim0mq::{Judged, Refusal};
+use sim0mq::{Reason, Refusal, refuse};
 use sim0mq_buffers::put;
 
 // The recorder's state: how many bytes and messages were written, and whether it is closed.
@@ -26,77 +24,8 @@ pub struct Recorder {
 // What a call answers, the bytes written so far or the refusal, and the state that it hands back.
 #[derive(Clone, Copy)]
 pub struct Recorded {
-    pub said: Judged,
+    pub said: Result<usize, Refusal>,
     pub recorder: Recorder,
-}
-
-// The refusal of this number at this place, with the state that was taken.
-fn refused(number: u32, place: usize, recorder: Recorder) -> Recorded
-    ensures { result ≡ after_adding recorder (refusal number place) }
-{
-    Recorded {
-        said: Judged::Refused(Refusal { number, place }),
-        recorder,
-    }
-}
-
-// Whether this state is open, and within a buffer of `room` bytes.
-fn usable(w: Recorder, room: usize) -> bool
-    ensures { result ≡ usable_in w room }
-{
-    if w.closed {
-        return false;
-    }
-    w.written <= room
-}
-
-// Puts a message's bytes after what was written, by a state that takes one more: the bytes written then; or 14 where
-// there is no room.
-fn append(w: Recorder, text: &[u8], out: &mut [u8]) -> Recorded
-    requires { (usable_in w (length out.old) ≡ true) × (w.messages < most_messages) }
-    ensures answer { result ≡ after_adding w (room_for w.written (length out.old) text.now) }
-    ensures written { out.new
-        ≡ buffer_after out.old w.written
-        (room_for w.written (length out.old) text.now) }
-{
-    let at = w.written;
-    if out.len() - at < text.len() {
-        return refused(14, 0, w);
-    }
-    put(text, out, at);
-    let written = at + text.len();
-    Recorded {
-        said: Judged::Accepted(written),
-        recorder: Recorder {
-            written,
-            messages: w.messages + 1,
-            closed: false,
-        },
-    }
-}
-
-// Puts the index and the trailer of the state's messages, which are the first of these lengths, after what was written,
-// and closes the state: the bytes written then; or the refusal of putting them.
-fn finish(w: Recorder, lengths: &[u32], out: &mut [u8]) -> Recorded
-    requires { w.messages ≤ length lengths.now }
-    ensures answer { result ≡ after_closing w
-        (tailing newest (take w.messages lengths.now) w.written (length out.old)) }
-    ensures written { out.new
-        ≡ buffer_after out.old w.written
-        (tailing newest (take w.messages lengths.now) w.written (length out.old)) }
-{
-    let n = w.messages;
-    match put_tail(&lengths[..n], out, w.written) {
-        Judged::Refused(r) => refused(r.number, r.place, w),
-        Judged::Accepted(written) => Recorded {
-            said: Judged::Accepted(written),
-            recorder: Recorder {
-                written,
-                messages: n,
-                closed: true,
-            },
-        },
-    }
 }
 
 impl Recorder {
@@ -115,47 +44,102 @@ impl Recorder {
     // state that is closed, past its buffer or full, then the message's own refusal, placed within it, then 14 where it
     // has no room; refused, the buffer is as it was, and so is the state.
     pub fn add(self, message: &[u8], out: &mut [u8]) -> Recorded
-        ensures answer { result ≡ after_adding self (adding newest self (length out.old) message.now) }
+        ensures answer { told_as result
+            ≡ after_adding self (adding newest self (length out.old) message.now) }
         ensures written { out.new
             ≡ buffer_after out.old self.written
             (adding newest self (length out.old) message.now) }
     {
-        if !usable(self, out.len()) {
-            return refused(15, 0, self);
-        }
-        if MOST <= self.messages {
-            return refused(15, 0, self);
-        }
-        let a = judge(message);
-        let said = a.said;
-        match said {
-            Reading::Refused(r) => refused(r.number, r.place, self),
-            Reading::Accepted(_) => append(self, message, out),
-        }
+        let next = self.try_add(message, out);
+        self.after(next)
     }
 
     // Puts the index and the trailer after the messages, which are found again in the buffer: the bytes of the whole
     // recording. Or 15 for a state that is closed, past its buffer, or whose bytes are not so many messages, then 14
     // where there is no room; refused, the buffer is as it was, and so is the state.
     pub fn close(self, out: &mut [u8]) -> Recorded
-        ensures answer { result ≡ after_closing self (closing newest self out.old) }
+        ensures answer { told_as result ≡ after_closing self (closing newest self out.old) }
         ensures written { out.new
             ≡ buffer_after out.old self.written (closing newest self out.old) }
     {
-        if !usable(self, out.len()) {
-            return refused(15, 0, self);
+        let next = self.try_close(out);
+        self.after(next)
+    }
+
+    // What a call answers that led to this next state or was refused: a refusal hands back the state that was taken.
+    fn after(self, next: Result<Recorder, Refusal>) -> Recorded
+        ensures { told_as result ≡ handed_back self (states next) }
+    {
+        match next {
+            Err(r) => Recorded {
+                said: Err(r),
+                recorder: self,
+            },
+            Ok(w) => Recorded {
+                said: Ok(w.written),
+                recorder: w,
+            },
+        }
+    }
+
+    // Whether this state is open, and within a buffer of `room` bytes.
+    #[tactic(auto, unfolding(crate::specs::Recorder::usable))]
+    fn usable(self, room: usize) -> bool
+        ensures { result ≡ usable_in self room }
+    {
+        !self.closed && self.written <= room
+    }
+
+    // The state after this message, whose bytes are put after what was written; or the refusal of adding it.
+    fn try_add(self, message: &[u8], out: &mut [u8]) -> Result<Recorder, Refusal>
+        ensures answer { states result
+            ≡ added self (adding newest self (length out.old) message.now) }
+        ensures written { out.new
+            ≡ buffer_after out.old self.written
+            (adding newest self (length out.old) message.now) }
+    {
+        if !self.usable(out.len()) {
+            return refuse(Reason::State, 0);
+        }
+        if MOST <= self.messages {
+            return refuse(Reason::State, 0);
+        }
+        let _found = judge(message).said?;
+        let at = self.written;
+        if out.len() - at < message.len() {
+            return refuse(Reason::TooShort, 0);
+        }
+        put(message, out, at);
+        Ok(Recorder {
+            written: at + message.len(),
+            messages: self.messages + 1,
+            closed: false,
+        })
+    }
+
+    // The closed state, once the index and the trailer are put after the messages; or the refusal of closing.
+    fn try_close(self, out: &mut [u8]) -> Result<Recorder, Refusal>
+        ensures answer { states result ≡ closed_by self (closing newest self out.old) }
+        ensures written { out.new
+            ≡ buffer_after out.old self.written (closing newest self out.old) }
+    {
+        if !self.usable(out.len()) {
+            return refuse(Reason::State, 0);
         }
         let mut lengths = [0u32; MOST];
-        let written = self.written;
-        let d = divide(&out[..written], &mut lengths);
+        let d = divide(&out[..self.written], &mut lengths);
         if d.count != self.messages {
-            return refused(15, 0, self);
+            return refuse(Reason::State, 0);
         }
-        let stop = d.stop;
-        match stop {
-            Stop::AtFault(_) => refused(15, 0, self),
-            Stop::AtMost => refused(15, 0, self),
-            Stop::AtEnd => finish(self, &lengths, out),
+        match d.stop {
+            Stop::AtEnd => {}
+            _ => return refuse(Reason::State, 0),
         }
+        let written = put_tail(&lengths[..self.messages], out, self.written)?;
+        Ok(Recorder {
+            written,
+            messages: self.messages,
+            closed: true,
+        })
     }
 }

@@ -15,22 +15,21 @@ use Rattle.sim0mq.specs.Answer.{fine, refused}
 use Rattle.sim0mq.specs.Header as H
 use Rattle.sim0mq.specs.Message.{no_table, reading}
 use Rattle.sim0mq.specs.Table.{placed}
-use Rattle.sim0mq.specs.declared.Judged.TheVariants.{Accepted as Judged-as-Accepted}
+use Rattle.std.specs.Prelude.{Ok, Err}
+use Rattle.sim0mq.specs.Views.{number_of}
 use Rattle.sim0mq.specs.declared.Refusal.{Refusal}
 use Rattle.reading_header.specs.declared.Frame.{Frame}
 use Rattle.reading_header.specs.Frames.{framed, shown}
 use Rattle.reading.specs.declared.Answer.{Answer}
 use Rattle.reading.specs.declared.Found.{Found}
-use Rattle.reading.specs.declared.Reading.TheVariants.{Accepted, Refused}
-use Rattle.reading.specs.Answers.{answered}
-use Rattle.reading.proofs.SaidLaws.{said_fine, said_refused}
+use Rattle.reading.specs.Answers.{Answered, answer_as, answered}
+use Rattle.reading.proofs.SaidLaws.{found_at, fault_at}
 use Rattle.senders_book.specs.declared.Book.{Book}
 use Rattle.senders_book.specs.declared.Id.{Id}
 use Rattle.senders_book.specs.declared.Sender.{Sender}
 use Rattle.senders_book.specs.Book.{id_bytes, id_of, settling}
 use Rattle.senders_book.specs.Taking.{Stamp, frame_place, entry_as, taking_framed, taking}
-use Rattle.senders.specs.declared.Taken.{Taken}
-use Rattle.senders.specs.Senders.{after_taking}
+use Rattle.senders.specs.Senders.{Took, after_taking}
 use Rattle.senders_book.proofs.StampLaws.{frames_are_enough, reading_comes_first}
 
 -- an id
@@ -40,16 +39,16 @@ id_made c l x p = λ i. record { code = c; length = length l; bytes = p i }
 
 -- the book with a stamp's sender and number in place i
 pub stands_in : (b : Book) (t : Stamp) (i : ℕ) (x : Id) (z : ℤ) → x ≡ id_of t.code t.id → z ≡ t.number
-    → ◌≡◌ {A = Taken}
+    → ◌≡◌ {A = Took}
     (record {
-      said = Judged-as-Accepted i;
+      said = fine i;
       book = record { senders = set b.senders i (record { held = true; number = z; id = x }) };
     })
     (after_taking b (fine (entry_as t i)))
 stands_in b t i x z p q =
     λ j.
     record {
-      said = Judged-as-Accepted i;
+      said = fine i;
       book = record { senders = set b.senders i (record { held = true; number = q j; id = p j }) };
     }
 
@@ -76,14 +75,12 @@ shown_back [] = refl
 shown_back (f ∷ fs) = ap (◌∷◌ f) (shown_back fs)
 
 -- taking a message of which this is reading's answer
-module _ (b : List Sender) (s : List ℕ) (a : Answer) (e : a ≡ answered (reading no_table s)) where
-  pub take_stops : (r : Refusal) → a.said ≡ Refused r → refused r.number r.place ≡ taking b s
-  take_stops r q =
-      sym (reading_comes_first b s r.number r.place
-      (said_refused (reading no_table s) r (sym (ap (λ (y : Answer). y.said) e) ∙ q)))
+module _ (b : List Sender) (s : List ℕ) (a : Answer) (e : answer_as a ≡ answered (reading no_table s)) where
+  pub take_stops : (r : Refusal) → a.said ≡ Err r → refused (number_of r.reason) r.place ≡ taking b s
+  take_stops r q = sym (reading_comes_first b s _ r.place (fault_at _ a e r q))
 
-  pub take_goes : (f : Found) → a.said ≡ Accepted f → taking_framed b s (map shown a.frames) ≡ taking b s
+  pub take_goes : (f : Found) → a.said ≡ Ok f → taking_framed b s (map shown a.frames) ≡ taking b s
   take_goes f q =
-      let m = said_fine (reading no_table s) f (sym (ap (λ (y : Answer). y.said) e) ∙ q) in
-      let found : a.frames ≡ map framed m.0.frames = ap (λ (y : Answer). y.frames) (e ∙ ap answered m.1) in
+      let m = found_at _ a e f q in
+      let found : a.frames ≡ map framed m.0.frames = ap (λ (y : Answered). y.frames) (e ∙ ap answered m.1) in
       ap (taking_framed b s) (ap (map shown) found ∙ shown_back m.0.frames) ∙ frames_are_enough b s m.0 m.1

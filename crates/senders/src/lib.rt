@@ -4,19 +4,19 @@
 
 ghost use Rattle.std.specs.Prelude.{◌≡◌, map, ◌≤◌, length};
 ghost use Rattle.sim0mq.specs.Answer.{refused as refusal};
-ghost use Rattle.sim0mq.specs.Views.{judged};
+ghost use Rattle.sim0mq.specs.Views.{number_of, said_as, judged};
 ghost use Rattle.sim0mq_numbers.specs.Numbers.{Below};
 ghost use Rattle.reading_header.specs.Frames.{shown};
 ghost use Rattle.senders_book.specs.Book.{id_bytes, book_places, id_of, settling, closing};
-ghost use Rattle.senders_book.specs.Taking.{stamped, stamping, taking_framed, taking};
-ghost use Rattle.senders.specs.Senders.{emptied, after_taking, after_closing};
+ghost use Rattle.senders_book.specs.Taking.{stamp_at, stamping, taking_framed, taking};
+ghost use Rattle.senders.specs.Senders.{emptied, stamp_as, took_as, after_taking, after_closing};
 
-use reading::{Reading, judge};
-use reading_fields::{Fielded, outline};
+use reading::judge;
+use reading_fields::outline;
 use reading_header::Frame;
 use senders_book::{BOOK_PLACES, Book, ID_BYTES, Id, Sender};
 use senders_lookup::{free_place, place_of};
-use sim0mq::{Judged, Refusal};
+use sim0mq::{Reason, Refusal, refuse};
 use sim0mq_buffers::put;
 use sim0mq_numbers::number;
 use sim0mq_signed::i64_of;
@@ -24,7 +24,7 @@ use sim0mq_signed::i64_of;
 // What taking answers, the sender's place in the book or the refusal, and the book that it hands back.
 #[derive(Clone, Copy)]
 pub struct Taken {
-    pub said: Judged,
+    pub said: Result<usize, Refusal>,
     pub book: Book,
 }
 
@@ -69,62 +69,87 @@ fn id_of(code: usize, id: &[u8]) -> Id
     }
 }
 
-// The place that a sender is to have in the book for this number, where its sender frame and its number frame stand at
-// these places of the message; or the refusal.
-fn settle(
-    senders: [Sender; BOOK_PLACES],
-    id: Id,
-    number: i64,
+// Where a message's sender frame and its number frame stand.
+#[derive(Clone, Copy)]
+struct Places {
     sender: usize,
     numbered: usize,
-) -> Judged
-    ensures { (judged result ≡ settling senders id number sender numbered) × Below book_places result }
+}
+
+// What the book looks at in a message: where its two frames stand, the sender's type code and value bytes, and the
+// number.
+#[derive(Clone, Copy)]
+struct Stamp<'a> {
+    at: Places,
+    code: usize,
+    id: &'a [u8],
+    number: i64,
+}
+
+// The stamp of the message whose two frames stand at these places, or the refusal of the first that is wrong.
+fn stamp_at(message: &[u8], at: Places) -> Result<Stamp, Refusal>
+    ensures { said_as stamp_as result ≡ stamp_at message.now at.sender at.numbered }
+{
+    let f = outline(message, at.sender)?;
+    let g = outline(message, at.numbered)?;
+    let end = f.first + f.size;
+    Ok(Stamp {
+        at,
+        code: f.code,
+        id: &message[f.first..end],
+        number: i64_of(number(message, g.first, g.size) as u64),
+    })
+}
+
+// The place that a sender is to have in the book for this number, where its two frames stand at these places of the
+// message; or the refusal.
+fn settle(senders: [Sender; BOOK_PLACES], id: Id, number: i64, at: Places) -> Result<usize, Refusal>
+    ensures { (judged result ≡ settling senders id number at.sender at.numbered) × Below book_places result }
 {
     let i = place_of(senders, id);
     if i < BOOK_PLACES {
         let e = senders[i];
         if e.number < number {
-            return Judged::Accepted(i);
+            return Ok(i);
         }
-        return sim0mq::refuse(27, numbered);
+        return refuse(Reason::NumberNotGreater, at.numbered);
     }
     let j = free_place(senders);
     if j < BOOK_PLACES {
-        return Judged::Accepted(j);
+        return Ok(j);
     }
-    sim0mq::refuse(28, sender)
+    refuse(Reason::BookFull, at.sender)
 }
 
-// A refusal of this number at this place, with the book that was taken.
-fn refused(number: u32, place: usize, book: Book) -> Taken
-    ensures { result ≡ after_taking book (refusal number place) }
+// This refusal, with the book that was taken.
+fn refused(r: Refusal, book: Book) -> Taken
+    ensures { took_as result ≡ after_taking book (refusal (number_of r.reason) r.place) }
 {
-    Taken {
-        said: Judged::Refused(Refusal { number, place }),
-        book,
-    }
+    Taken { said: Err(r), book }
 }
 
-// Takes a message of this sender with this number into the book, where its sender frame and its number frame stand at
-// these places.
-fn enter(book: Book, code: usize, id: &[u8], number: i64, sender: usize, numbered: usize) -> Taken
-    ensures { result ≡ after_taking book (stamping book.senders (stamped sender numbered code id.now number)) }
+// Takes a message of this stamp into the book.
+fn enter(book: Book, t: Stamp) -> Taken
+    ensures { took_as result ≡ after_taking book (stamping book.senders (stamp_as t.entry)) }
 {
-    if ID_BYTES < id.len() {
-        return refused(26, sender, book);
+    if ID_BYTES < t.id.len() {
+        return Taken {
+            said: refuse(Reason::IdTooLong, t.at.sender),
+            book,
+        };
     }
-    let name = id_of(code, id);
+    let id = id_of(t.code, t.id);
     let mut senders = book.senders;
-    match settle(senders, name, number, sender, numbered) {
-        Judged::Refused(r) => refused(r.number, r.place, book),
-        Judged::Accepted(i) => {
+    match settle(senders, id, t.number, t.at) {
+        Err(r) => refused(r, book),
+        Ok(i) => {
             senders[i] = Sender {
                 held: true,
-                number,
-                id: name,
+                number: t.number,
+                id,
             };
             Taken {
-                said: Judged::Accepted(i),
+                said: Ok(i),
                 book: Book { senders },
             }
         }
@@ -135,42 +160,27 @@ fn enter(book: Book, code: usize, id: &[u8], number: i64, sender: usize, numbere
 // in the book, and the book with its number; or the refusal, and the book as it was. Frames that do not stand in the
 // message are refused as fields are that end too soon.
 pub fn take_framed(book: Book, message: &[u8], frames: [Frame; 8]) -> Taken
-    ensures { result ≡ after_taking book (taking_framed book.senders message.now (map shown frames)) }
+    ensures { took_as result ≡ after_taking book (taking_framed book.senders message.now (map shown frames)) }
 {
-    let sender = frames[2];
-    let numbered = frames[5];
-    match outline(message, sender.place) {
-        Fielded::Refused(r) => refused(r.number, r.place, book),
-        Fielded::Accepted(f) => match outline(message, numbered.place) {
-            Fielded::Refused(r) => refused(r.number, r.place, book),
-            Fielded::Accepted(g) => {
-                let first = f.first;
-                let end = first + f.size;
-                let n = i64_of(number(message, g.first, g.size) as u64);
-                enter(
-                    book,
-                    f.code,
-                    &message[first..end],
-                    n,
-                    sender.place,
-                    numbered.place,
-                )
-            }
-        },
+    let at = Places {
+        sender: frames[2].place,
+        numbered: frames[5].place,
+    };
+    match stamp_at(message, at) {
+        Err(r) => refused(r, book),
+        Ok(t) => enter(book, t),
     }
 }
 
 // Takes the message into the book: the sender's place in the book, and the book with its number; or the refusal, and
 // the book as it was.
 pub fn take(book: Book, message: &[u8]) -> Taken
-    ensures { result ≡ after_taking book (taking book.senders message.now) }
+    ensures { took_as result ≡ after_taking book (taking book.senders message.now) }
 {
     let a = judge(message);
-    let said = a.said;
-    let frames = a.frames;
-    match said {
-        Reading::Refused(r) => refused(r.number, r.place, book),
-        Reading::Accepted(_) => take_framed(book, message, frames),
+    match a.said {
+        Err(r) => refused(r, book),
+        Ok(_) => take_framed(book, message, a.frames),
     }
 }
 

@@ -9,9 +9,10 @@ use mathlib.Core.List.{List, [], ◌∷◌}
 use native.Mathlib.Omega.{arith}
 use lib.ListN.{length, set, length-set}
 use lib.Dec.{eqb}
-use lib.IntN.{ℤ, pos, negsuc}
+use lib.IntN.{ℤ}
 use lib.Signed.{lt_z}
-use borrow.Author.Tests.{ltb-true, lt-ltb, eqb-true, eqb-false}
+use borrow.Author.Tests.{ltb-true, eqb-true, eqb-false}
+use Rattle.std.proofs.lemmas.Int.{ints}
 use Rattle.sim0mq.specs.Answer.{Answer, fine, refused}
 use Rattle.sim0mq.specs.Message.{no_table, reading}
 use Rattle.sim0mq.proofs.Answers.{bind_fine}
@@ -79,13 +80,7 @@ use Rattle.senders_book.proofs.Promises.{
 
 -- ---- the order of numbers
 less_trans : (x y z : ℤ) → lt_z x y ≡ true → lt_z y z ≡ true → lt_z x z ≡ true
-less_trans (pos a) (pos b) (pos c) h k = lt-ltb a c (omega (arith, ltb-true a b h, ltb-true b c k))
-less_trans (pos a) (pos b) (negsuc c) h k = k
-less_trans (pos a) (negsuc b) z h k = absurd (not_both (sym h))
-less_trans (negsuc a) (pos b) (pos c) h k = refl
-less_trans (negsuc a) (pos b) (negsuc c) h k = absurd (not_both (sym k))
-less_trans (negsuc a) (negsuc b) (pos c) h k = refl
-less_trans (negsuc a) (negsuc b) (negsuc c) h k = lt-ltb c a (omega (arith, ltb-true b a h, ltb-true c b k))
+less_trans x y z h k = grind (arith, ints)
 
 smaller_on : (m n : ℤ) (ms : List ℤ) → lt_z m n ≡ true → Smaller m ms → Smaller n ms
 unfolding Smaller
@@ -367,7 +362,7 @@ held_where_taken p h c l = (into (numbers_of c l p.events) ((known h).tells c l)
   where
     into : (ns : List ℤ) → Tells p.book (id_of c l) ns → ns ≡ [] → is_held p.book (id_of c l) ≡ false
     into [] tells e = is_not_held p.book (id_of c l) tells
-    into (n ∷ ns) tells e = let z : ◌≡◌ {A = ℕ} 1 0 = cc in absurd (omega arith)
+    into (n ∷ ns) tells e = cc
 
     back : (ns : List ℤ) → Tells p.book (id_of c l) ns → is_held p.book (id_of c l) ≡ false → ns ≡ []
     back [] tells e = refl

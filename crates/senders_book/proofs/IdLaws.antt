@@ -1,14 +1,21 @@
 -- Ids are compared number by number: two are the same where code, length and every byte up to that length are.
-use Prim.Native.Nat.{ℕ, zero, suc, ◌+◌, ◌≤◌, ◌<◌}
+use Prim.Native.Nat.{ℕ, ◌+◌, ◌≤◌, ◌<◌}
 use mathlib.Core.Path.{◌≡◌, refl, sym, ap, ◌∙◌}
-use mathlib.Core.Bool.{Bool, true, false, ◌&&◌}
+use mathlib.Core.Bool.{true, false}
 use mathlib.Core.List.{List}
 use native.Mathlib.Omega.{arith}
 use native.Mathlib.Numerals.{add-one}
-use lib.ListN.{length, get_or, drop, replicate, get_or-append}
+use lib.ListN.{length, get_or, take, drop, replicate, get_or-append}
 use lib.Seq.{ext_get_or}
-use lib.Dec.{leb, ltb, eqb}
-use borrow.Author.Tests.{ltb-true, ltb-false, leb-true, le-leb, lt-leb, eqb-true, eq-eqb, ne_eqb}
+use lib.Dec.{leb, eqb}
+use borrow.Author.Tests.{leb-true, le-leb, eqb-true, eq-eqb}
+use Rattle.std.specs.Bool.{Decides}
+use Rattle.std.specs.Str.{bytes_eq}
+use Rattle.std.proofs.Math.Bool.{and_comm}
+use Rattle.std.proofs.lemmas.Bool.{false_from_ne_true}
+use Rattle.std.proofs.lemmas.Bool.Decides.{same_from_decides, Decides-eqb, Decides-below_and}
+use Rattle.std.proofs.lemmas.List.{get_or-take, length-take-le}
+use Rattle.std.proofs.lemmas.Slice.Eq.{bytes_eq-Decides}
 use Rattle.sim0mq.specs.Table.{placed}
 use Rattle.sim0mq.proofs.Answers.{and_true}
 use Rattle.senders_book.specs.declared.Id.{Id}
@@ -18,12 +25,19 @@ use Rattle.senders_book.specs.Taking.{Stamp, holding}
 use Rattle.senders_book.specs.Promises.{SameExactly}
 use Rattle.senders_book.specs.History.{same_sender}
 
-last_false : (a b : Bool) → b ≡ false → (a && b) ≡ false
-last_false true b e = e
-last_false false b e = refl
-
 -- the first n numbers, one by one
 module _ (xs ys : List ℕ) where
+  alike_decides : (n : ℕ) → Decides (alike n xs ys) ((i : ℕ) → i < n → get_or xs i 0 ≡ get_or ys i 0)
+  unfolding alike
+  alike_decides =
+      Decides-below_and
+      (λ k. eqb (get_or xs k 0) (get_or ys k 0))
+      (λ k. get_or xs k 0 ≡ get_or ys k 0)
+      (λ n. alike n xs ys)
+      (λ k. Decides-eqb (get_or xs k 0) (get_or ys k 0))
+      refl
+      (λ n. and_comm (alike n xs ys) (eqb (get_or xs n 0) (get_or ys n 0)))
+
   pub alike_start : alike 0 xs ys ≡ true
   unfolding alike
   alike_start = refl
@@ -33,56 +47,24 @@ module _ (xs ys : List ℕ) where
   alike_more n a e = rw (add-one n, a, eq-eqb _ _ e) refl
 
   pub alike_stops : (n k : ℕ) → k < n → (get_or xs k 0 ≡ get_or ys k 0 → ⊥) → alike n xs ys ≡ false
-  unfolding alike
-  alike_stops zero k h d = absurd (omega arith)
-  alike_stops (suc n) k h d = go (λ l. alike_stops n k l d) (ltb k n) refl
+  alike_stops n k h d = false_from_ne_true (alike n xs ys) (λ e. d ((alike_decides n).0 e k h))
+
+  -- they are the same where the slices of them are
+  pub alike_slices : (n : ℕ) → n ≤ length xs → n ≤ length ys → bytes_eq (take n xs) (take n ys) ≡ alike n xs ys
+  alike_slices n h k = same_from_decides _ _ (bytes_eq-Decides (take n xs) (take n ys)) (each, same)
     where
-      go : (k < n → alike n xs ys ≡ false) → (t : Bool) → ltb k n ≡ t → alike (suc n) xs ys ≡ false
-      go r true e = rw (r (ltb-true _ _ e)) refl
-      go r false e =
-          let q : k ≡ n = omega (arith, ltb-false k n e) in
-          let f : eqb (get_or xs n 0) (get_or ys n 0) ≡ false
-          = ne_eqb _ _ (λ z. d (ap (λ (j : ℕ). get_or xs j 0) q ∙ z ∙ ap (λ (j : ℕ). get_or ys j 0) (sym q))) in
-          last_false (alike n xs ys) _ f
+      same : take n xs ≡ take n ys → alike n xs ys ≡ true
+      same e =
+          (alike_decides n).1
+          (λ i l. sym (get_or-take n xs i 0 l) ∙ (ap (λ (z : List ℕ). get_or z i 0) e ∙ get_or-take n ys i 0 l))
 
-  alike_all : (n : ℕ) → alike n xs ys ≡ true → (i : ℕ) → i < n → get_or xs i 0 ≡ get_or ys i 0
-  unfolding alike
-  alike_all zero e i h = absurd (omega arith)
-  alike_all (suc n) e i h =
-      let a = and_true (alike n xs ys) _ e in
-      go (λ l. alike_all n a.0 i l) (eqb-true _ _ a.1) (ltb i n) refl
-    where
-      go : (i < n → get_or xs i 0 ≡ get_or ys i 0) → get_or xs n 0 ≡ get_or ys n 0 → (t : Bool) → ltb i n ≡ t
-          → get_or xs i 0 ≡ get_or ys i 0
-      go r q true z = r (ltb-true _ _ z)
-      go r q false z =
-          let w : i ≡ n = omega (arith, ltb-false i n z) in
-          ap (λ (j : ℕ). get_or xs j 0) w ∙ q ∙ ap (λ (j : ℕ). get_or ys j 0) (sym w)
-
-  alike_by : (n : ℕ) → ((i : ℕ) → i < n → get_or xs i 0 ≡ get_or ys i 0) → alike n xs ys ≡ true
-  unfolding alike
-  alike_by zero h = refl
-  alike_by (suc n) h = rw (alike_by n (λ i l. h i (omega arith)), eq-eqb _ _ (h n (omega arith))) refl
-
--- two ids, test by test
-module _ (x y : Id) where
-  pub same_code : (x.code ≡ y.code → ⊥) → false ≡ same_id x y
-  unfolding same_id
-  same_code d = rw (ne_eqb _ _ d) refl
-
-  module _ (c : x.code ≡ y.code) where
-    pub same_length : (x.length ≡ y.length → ⊥) → false ≡ same_id x y
-    unfolding same_id
-    same_length d = rw (eq-eqb _ _ c, ne_eqb _ _ d) refl
-
-    module _ (l : x.length ≡ y.length) where
-      pub same_over : id_bytes < y.length → false ≡ same_id x y
-      unfolding same_id
-      same_over d = rw (eq-eqb _ _ c, eq-eqb _ _ l, lt-leb y.length id_bytes d) refl
-
-      pub same_bytes : y.length ≤ id_bytes → alike y.length x.bytes y.bytes ≡ same_id x y
-      unfolding same_id
-      same_bytes d = rw (eq-eqb _ _ c, eq-eqb _ _ l, le-leb y.length id_bytes d) refl
+      each : alike n xs ys ≡ true → take n xs ≡ take n ys
+      each e =
+          let long = length-take-le n xs h in
+          ext_get_or 0 (take n xs) (take n ys) (long ∙ sym (length-take-le n ys k))
+          (λ i l.
+          let m : i < n = omega arith in
+          get_or-take n xs i 0 m ∙ ((alike_decides n).0 e i m ∙ sym (get_or-take n ys i 0 m)))
 
 -- what two ids that are the same have in common
 record Common (x y : Id) : Type 0 where
@@ -101,11 +83,15 @@ common x y e =
       code = eqb-true _ _ a.0;
       size = eqb-true _ _ b.0;
       short = leb-true _ _ c.0;
-      bytes = alike_all x.bytes y.bytes y.length c.1;
+      bytes = (alike_decides x.bytes y.bytes y.length).0 c.1;
     }
 
 same_by : (x y : Id) → Common x y → same_id x y ≡ true
-same_by x y c = sym (same_bytes x y c.code c.size c.short) ∙ alike_by x.bytes y.bytes y.length c.bytes
+unfolding same_id
+same_by x y c =
+    rw
+    (eq-eqb _ _ c.code, eq-eqb _ _ c.size, le-leb _ _ c.short, (alike_decides x.bytes y.bytes y.length).1 c.bytes)
+    refl
 
 -- ids that are the same as a third are the same
 pub same_as : (x y z : Id) → same_id x z ≡ true → same_id y z ≡ true → same_id x y ≡ true
@@ -162,11 +148,11 @@ sender_true c d l k e =
     let a = and_true (eqb c d) _ e in
     let b = and_true (eqb (length l) (length k)) _ a.1 in
     let n : length l ≡ length k = eqb-true _ _ b.0 in
-    (eqb-true _ _ a.0, ext_get_or 0 l k n (λ i h. alike_all l k (length k) b.1 i (omega arith)))
+    (eqb-true _ _ a.0, ext_get_or 0 l k n (λ i h. (alike_decides l k (length k)).0 b.1 i (omega arith)))
 
 pub sender_self : (c : ℕ) (l : List ℕ) → same_sender c l c l ≡ true
 unfolding same_sender
-sender_self c l = rw (eq-eqb c c refl, eq-eqb (length l) (length l) refl, alike_by l l (length l) (λ i h. refl)) refl
+sender_self c l = rw (eq-eqb c c refl, eq-eqb (length l) (length l) refl, (alike_decides l l (length l)).1 (λ i h. refl)) refl
 
 pub sender_sym : (c d : ℕ) (l k : List ℕ) → same_sender c l d k ≡ true → same_sender d k c l ≡ true
 sender_sym c d l k h =
@@ -178,10 +164,6 @@ module _ (e : Sender) (id : Id) where
   pub holds_none : e.held ≡ false → false ≡ holds e id
   unfolding holds
   holds_none h = rw h refl
-
-  pub holds_some : e.held ≡ true → same_id e.id id ≡ holds e id
-  unfolding holds
-  holds_some h = rw h refl
 
   pub holds_same : holds e id ≡ true → same_id e.id id ≡ true
   unfolding holds

@@ -1,124 +1,102 @@
--- The first place of a sender, and the first that is free: from place i on, and after a place is set.
+-- The first place of a sender, and the first that is free: each is the first place where a test holds.
 use Prim.Native.Nat.{ℕ, zero, suc, ◌+◌, ◌≤◌, ◌<◌}
 use mathlib.Core.Path.{◌≡◌, refl, ap, ◌∙◌}
-use mathlib.Core.Bool.{Bool, true, false, cond}
+use mathlib.Core.Bool.{Bool, true, false, cond, not}
+use mathlib.Core.Logic.{inl, inr}
 use mathlib.Core.List.{List, [], ◌∷◌}
 use native.Mathlib.Omega.{arith}
-use native.Mathlib.Numerals.{add-one}
-use lib.ListN.{length, drop, set, replicate, drop_of_length-le}
-use lib.Seq.{drop-cons, get_or-set_same, get_or-set_other}
+use lib.ListN.{length, set, replicate}
+use lib.Seq.{get_or-set_same, get_or-set_other}
 use lib.Dec.{eqb}
-use borrow.Author.Tests.{ltb-true, lt-ltb, eqb-true, eqb-false}
+use borrow.Author.Tests.{ltb-true, lt-ltb, le-ltb, eqb-true, eqb-false, not-true}
+use Rattle.std.specs.Option.{unwrap_or}
+use Rattle.std.specs.List.{position, position_or_len}
+use Rattle.std.proofs.lemmas.Bool.{cases_lt, false_from_ne_true, true_from_ne_false}
+use Rattle.std.proofs.lemmas.List.{get_or_past}
+use Rattle.std.proofs.lemmas.List.Recursion.{is_position_or_len}
+use Rattle.std.proofs.lemmas.List.Sums.{prefix_len-le-length, fails_before_first, passes_at_first}
 use Rattle.senders_book.specs.declared.Id.{Id}
 use Rattle.senders_book.specs.declared.Sender.{Sender}
 use Rattle.senders_book.specs.Book.{free, nowhere, holds, place_of, free_place, entry_in, is_held}
 use Rattle.senders_book.specs.Promises.{PlaceIsTheFirst, FreeIsTheFirst}
 
--- from place i on
-module _ (b : List Sender) (i : ℕ) where
-  module _ (id : Id) where
-    pub place_here : i < length b → holds (entry_in b i) id ≡ true → place_of (drop i b) id ≡ 0
-    unfolding place_of
-    place_here h e = rw (drop-cons b i nowhere h, e) refl
+-- the first place where a test holds comes no later than any where it does
+first_least : (p : Sender → Bool) (b : List Sender) (j : ℕ) → p (entry_in b j) ≡ true → position_or_len p b ≤ j
+first_least p b j h = elim (cases_lt j (position_or_len p b)) [
+  | inl l ↦ let f = fails_before_first p b j nowhere l in absurd cc
+  | inr g ↦ g
+]
 
-    pub place-on : i < length b → holds (entry_in b i) id ≡ false → place_of (drop i b) id ≡ suc (place_of (drop (i + 1) b) id)
-    unfolding place_of
-    place-on h e = rw (drop-cons b i nowhere h, e, add-one i) refl
+-- and is what looking for it finds, with the number of places where none is found
+first_found : (p : Sender → Bool) (b : List Sender) → position_or_len p b ≡ unwrap_or (position p b) (length b)
+first_found p b = elim (cases_lt (position_or_len p b) (length b)) [
+  | inl l ↦ rw (lt-ltb _ _ l) refl
+  | inr g ↦ let h = prefix_len-le-length (λ x. not (p x)) b in rw (le-ltb _ _ g) (omega arith)
+]
 
-    pub place_end : length b ≤ i → place_of (drop i b) id ≡ 0
-    unfolding place_of
-    place_end h = rw (drop_of_length-le b h) refl
+-- the first place of a sender, and the first that is free, are the first of a test
+place_first : (b : List Sender) (id : Id) → place_of b id ≡ position_or_len (λ e. holds e id) b
+unfolding place_of
+place_first b id =
+    is_position_or_len (λ l. place_of l id) (λ e. holds e id) refl (λ e es. ap (cond (holds e id) 0) (omega arith)) b
 
-  pub free_here : i < length b → (entry_in b i).held ≡ false → free_place (drop i b) ≡ 0
-  unfolding free_place
-  free_here h e = rw (drop-cons b i nowhere h, e) refl
+free_first : (b : List Sender) → free_place b ≡ position_or_len (λ e. not e.held) b
+unfolding free_place
+free_first b = is_position_or_len free_place (λ e. not e.held) refl (λ e es. turned e.held (free_place es)) b
+  where
+    turned : (t : Bool) (n : ℕ) → cond t (suc n) 0 ≡ cond (not t) 0 (1 + n)
+    turned true n = omega arith
+    turned false n = refl
 
-  pub free_on : i < length b → (entry_in b i).held ≡ true → free_place (drop i b) ≡ suc (free_place (drop (i + 1) b))
-  unfolding free_place
-  free_on h e = rw (drop-cons b i nowhere h, e, add-one i) refl
+-- so what looking for them finds is their place
+pub place_found : (b : List Sender) (id : Id) → place_of b id ≡ unwrap_or (position (λ e. holds e id) b) (length b)
+place_found b id = place_first b id ∙ first_found (λ e. holds e id) b
 
-  pub free_end : length b ≤ i → free_place (drop i b) ≡ 0
-  unfolding free_place
-  free_end h = rw (drop_of_length-le b h) refl
+pub free_found : (b : List Sender) → free_place b ≡ unwrap_or (position (λ e. not e.held) b) (length b)
+free_found b = free_first b ∙ first_found (λ e. not e.held) b
 
 -- the first place of a sender
 pub place_least : (b : List Sender) (id : Id) (j : ℕ) → holds (entry_in b j) id ≡ true → place_of b id ≤ j
-unfolding place_of
-place_least [] id j h = omega arith
-place_least (x ∷ xs) id zero h = rw h (omega arith)
-place_least (x ∷ xs) id (suc j) h = go (place_least xs id j h) (holds x id)
-  where
-    go : place_of xs id ≤ j → (t : Bool) → cond t 0 (suc (place_of xs id)) ≤ suc j
-    go r true = omega arith
-    go r false = omega arith
+place_least b id j h = rw (place_first b id) (first_least (λ e. holds e id) b j h)
 
 pub place_holds : (b : List Sender) (id : Id) → place_of b id < length b → holds (entry_in b (place_of b id)) id ≡ true
-unfolding place_of
-place_holds [] id h = absurd (omega arith)
-place_holds (x ∷ xs) id h = go (λ l. place_holds xs id l) (holds x id) refl h
-  where
-    go : (place_of xs id < length xs → holds (entry_in xs (place_of xs id)) id ≡ true) → (t : Bool) → holds x id ≡ t
-        → cond t 0 (suc (place_of xs id)) < suc (length xs)
-        → holds (entry_in (x ∷ xs) (cond t 0 (suc (place_of xs id)))) id ≡ true
-    go r true q l = q
-    go r false q l = r (omega arith)
-
--- what is not true is false
-not_true_false : (t : Bool) → (t ≡ true → ⊥) → t ≡ false
-not_true_false true n = absurd (n refl)
-not_true_false false n = refl
+place_holds b id h = rw (place_first b id) (passes_at_first (λ e. holds e id) b nowhere (rw (place_first b id) at h))
 
 pub place_is_the_first : PlaceIsTheFirst
 place_is_the_first b id h = (
   place_holds b id (ltb-true _ _ h),
-  λ i l. not_true_false (holds (entry_in b i) id) (λ e. let k = place_least b id i e in omega arith),
+  λ i l. false_from_ne_true (holds (entry_in b i) id) (λ e. let k = place_least b id i e in omega arith),
 )
 
 -- the first free place
 pub free_least : (b : List Sender) (j : ℕ) → j < length b → (entry_in b j).held ≡ false → free_place b ≤ j
-unfolding free_place
-free_least [] j l h = absurd (omega arith)
-free_least (x ∷ xs) zero l h = rw h (omega arith)
-free_least (x ∷ xs) (suc j) l h = go (free_least xs j (omega arith) h) x.held
-  where
-    go : free_place xs ≤ j → (t : Bool) → cond t (suc (free_place xs)) 0 ≤ suc j
-    go r true = omega arith
-    go r false = omega arith
+free_least b j l h = rw (free_first b) (first_least (λ e. not e.held) b j (ap not h))
 
 free_free : (b : List Sender) → free_place b < length b → (entry_in b (free_place b)).held ≡ false
-unfolding free_place
-free_free [] h = absurd (omega arith)
-free_free (x ∷ xs) h = go (λ l. free_free xs l) x.held refl h
-  where
-    go : (free_place xs < length xs → (entry_in xs (free_place xs)).held ≡ false) → (t : Bool) → x.held ≡ t
-        → cond t (suc (free_place xs)) 0 < suc (length xs) → (entry_in (x ∷ xs) (cond t (suc (free_place xs)) 0)).held ≡ false
-    go r true q l = r (omega arith)
-    go r false q l = q
-
-not_false_true : (t : Bool) → (t ≡ false → ⊥) → t ≡ true
-not_false_true true n = refl
-not_false_true false n = absurd (n refl)
+free_free b h =
+    rw (free_first b) (not-true _ (passes_at_first (λ e. not e.held) b nowhere (rw (free_first b) at h)))
 
 pub free_is_the_first : FreeIsTheFirst
 free_is_the_first b h =
     let l = ltb-true _ _ h in (
       free_free b l,
-      λ i k. not_false_true (entry_in b i).held (λ e. let n = free_least b i (omega arith) e in omega arith),
+      λ i k. true_from_ne_false (entry_in b i).held (λ e. let n = free_least b i (omega arith) e in omega arith),
     )
 
 -- nothing past the last place is held, and no free place
 pub not_held : (id : Id) → holds nowhere id ≡ true → ⊥
 unfolding holds
-not_held id e = let z : ◌≡◌ {A = ℕ} 0 1 = cc in omega arith
+not_held id e = cc
 
 pub free_not_held : (id : Id) → holds free id ≡ true → ⊥
 unfolding holds
-free_not_held id e = let z : ◌≡◌ {A = ℕ} 0 1 = cc in omega arith
+free_not_held id e = cc
 
 pub held_within : (b : List Sender) (id : Id) (j : ℕ) → holds (entry_in b j) id ≡ true → j < length b
-held_within [] id j h = absurd (not_held id h)
-held_within (x ∷ xs) id zero h = omega arith
-held_within (x ∷ xs) id (suc j) h = let r = held_within xs id j h in omega arith
+held_within b id j h = elim (cases_lt j (length b)) [
+  | inl l ↦ l
+  | inr g ↦ absurd (not_held id (rw (get_or_past b j nowhere g) at h))
+]
 
 -- a sender is held where a place holds it, and not where none does
 pub is_held_lem : (b : List Sender) (id : Id) (j : ℕ) → holds (entry_in b j) id ≡ true → is_held b id ≡ true
@@ -129,7 +107,7 @@ is_held_lem b id j h =
 
 pub is_not_held : (b : List Sender) (id : Id) → ((j : ℕ) → holds (entry_in b j) id ≡ true → ⊥) → is_held b id ≡ false
 is_not_held b id none =
-    not_true_false (is_held b id) (λ h. none (place_of b id) (place_holds b id (ltb-true _ _ h)))
+    false_from_ne_true (is_held b id) (λ h. none (place_of b id) (place_holds b id (ltb-true _ _ h)))
 
 -- no sender is held in a book of free places
 pub none_held : (n : ℕ) (id : Id) (i : ℕ) → holds (entry_in (replicate n free) i) id ≡ true → ⊥

@@ -8,9 +8,10 @@ use mathlib.Core.List.{List}
 use native.Mathlib.Omega.{arith}
 use lib.ListN.{length, set, length-set}
 use lib.Dec.{leb, eqb}
-use lib.IntN.{ℤ, pos, negsuc}
+use lib.IntN.{ℤ}
 use lib.Signed.{lt_z}
-use borrow.Author.Tests.{leb-true, leb-false, ltb-true, ltb-false, lt-ltb, le-ltb, eqb-false}
+use borrow.Author.Tests.{leb-true, leb-false, ltb-true, ltb-false, lt-ltb, eqb-false}
+use Rattle.std.proofs.lemmas.Int.{ints}
 use Rattle.sim0mq.specs.Answer.{Answer, fine, refused}
 use Rattle.sim0mq.proofs.Answers.{not_fine, fine_eq}
 use Rattle.senders_book.specs.declared.Id.{Id}
@@ -55,18 +56,9 @@ pub use Rattle.senders_book.proofs.StampLaws.{accepted_is_stamped, frames_are_en
 pub use Rattle.senders_book.proofs.IdLaws.{same_exactly}
 pub use Rattle.senders_book.proofs.PlaceLaws.{place_is_the_first, free_is_the_first}
 
--- a refusal's number and place
-number_in : {A : Type 0} → Answer A → ℕ
-number_in (fine a) = 0
-number_in (refused k p) = k
-
-place_in : {A : Type 0} → Answer A → ℕ
-place_in (fine a) = 0
-place_in (refused k p) = p
-
+-- a refusal tells its number and its place
 same_refusal : {A : Type 0} (k p j q : ℕ) → ◌≡◌ {A = Answer A} (refused k p) (refused j q) → (j ≡ k) × (q ≡ p)
-unfolding number_in place_in
-same_refusal k p j q e = (sym (ap number_in e), sym (ap place_in e))
+same_refusal k p j q e = (cc, cc)
 
 -- ---- the five answers to a stamp
 module _ (b : List Sender) (t : Stamp) where
@@ -180,8 +172,7 @@ settled b t e w =
 
 -- ---- a message that comes again
 pub not_less : (z : ℤ) → lt_z z z ≡ false
-not_less (pos n) = le-ltb n n (omega arith)
-not_less (negsuc n) = le-ltb n n (omega arith)
+not_less z = grind (arith, ints)
 
 again : (b : List Sender) (t : Stamp) (e : Entry) → Takes b t e
     → stamping (set b e.place (holding e.stamp)) t ≡ refused 27 t.numbered
@@ -236,7 +227,7 @@ closing_cases b c l = go (is_held b (id_of c l)) refl
     go false h = inr (record { says = rw h refl; unknown = h; same = rw h refl })
 
 pub not_both : true ≡ false → ⊥
-not_both e = let z : ◌≡◌ {A = ℕ} 0 1 = cc in omega arith
+not_both e = cc
 
 pub closing_unknown : ClosingUnknown
 closing_unknown b c l =

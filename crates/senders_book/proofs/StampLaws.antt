@@ -2,13 +2,12 @@
 -- number frame is a scalar of eight bytes, which all stand in the message.
 use Prim.Native.Nat.{ℕ, ◌+◌, ◌*◌, ◌≤◌}
 use mathlib.Core.Path.{◌≡◌, refl, sym, ap, ◌∙◌, subst}
-use mathlib.Core.Bool.{Bool, true, false, ◌||◌}
+use mathlib.Core.Bool.{or-false, true}
 use mathlib.Core.List.{List}
 use native.Mathlib.Omega.{arith}
 use lib.ListN.{length, take, drop}
 use lib.Dec.{leb}
 use borrow.Author.Tests.{eqb-true}
-use lib.Dec.{eqb}
 use Rattle.sim0mq.specs.Answer.{Answer, fine, refused, ◌>>=◌, byte, big, not_negative, part_at}
 use Rattle.sim0mq.specs.Codes.{width_of, counts_of}
 use Rattle.sim0mq.specs.Mark.{marks}
@@ -40,7 +39,7 @@ use Rattle.sim0mq_signed.specs.Signed.{twos}
 use Rattle.senders_book.specs.declared.Sender.{Sender}
 use Rattle.senders_book.specs.Taking.{stamped, frame_place, taking_framed, taking}
 use Rattle.senders_book.specs.Promises.{AcceptedIsStamped, FramesAreEnough, ReadingComesFirst}
-use Rattle.senders_book.proofs.TakeCases.{at-stamp}
+use Rattle.senders_book.proofs.TakeCases.{stamp-there, at-stamp}
 
 -- an outline that is fine: its place, and that it lies in s
 module _ (s : List ℕ) (at : ℕ) (x : Field) (q : outline s at ≡ fine x) where
@@ -151,14 +150,10 @@ reading_frames s m e =
     )
 
 -- the number frame has the one type code 3, which is a scalar's
-or_false : (t : Bool) → (t || false) ≡ true → t ≡ true
-or_false true e = refl
-or_false false e = e
-
 long_scalar : (c : ℕ) → among c number_codes ≡ true → (counts_of c ≡ 0) × (1 ≤ width_of c)
 unfolding among counts_of width_of
 long_scalar c e =
-    let q : 3 ≡ c = sym (eqb-true c 3 (or_false (eqb c 3) e)) in
+    let q : 3 ≡ c = sym (eqb-true c 3 (rw or-false at e)) in
     (ap counts_of (sym q), subst (λ (k : ℕ). 1 ≤ width_of k) q (omega arith))
 
 -- taking, once the message is read
@@ -203,6 +198,7 @@ accepted_is_stamped s m e =
       },
       λ b.
           sym (frames_are_enough b s m e)
-          ∙ sym (at-stamp b s m.frames two five refl refl f (frame_outline s id_codes two f r.is_id) g _ _ _
-          (frame_outline s number_codes five g r.is_number) refl refl refl),
+          ∙ sym (at-stamp b s m.frames two five refl refl _
+          (stamp-there s two five f (frame_outline s id_codes two f r.is_id) g _ _ _
+          (frame_outline s number_codes five g r.is_number) refl refl refl)),
     )

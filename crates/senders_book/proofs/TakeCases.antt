@@ -91,23 +91,33 @@ module _ (b : List Sender) (t : Stamp) where
     unfolding stamping
     stamp-goes i z = rw (le-leb (length t.id) id_bytes h, ← q, z) refl
 
--- bytes, by the places of two frames
+-- the stamp of the bytes whose two frames stand at these places
+module _ (s : List ℕ) (sender numbered : ℕ) where
+  pub stamp-sender : (k p : ℕ) → outline s sender ≡ refused k p → refused k p ≡ stamp_at s sender numbered
+  unfolding stamp_at
+  stamp-sender k p e = rw e refl
+
+  module _ (f : Field) (e : outline s sender ≡ fine f) where
+    pub stamp-number : (k p : ℕ) → outline s numbered ≡ refused k p → refused k p ≡ stamp_at s sender numbered
+    unfolding stamp_at
+    stamp-number k p d = rw (e, d) refl
+
+    pub stamp-there : (g : Field) (id : List ℕ) (n : ℕ) (z : ℤ) → outline s numbered ≡ fine g
+        → id ≡ take f.size (drop f.first s) → n ≡ number_at s g.first g.size → z ≡ twos 64 n
+        → fine (stamped sender numbered f.code id z) ≡ stamp_at s sender numbered
+    unfolding stamp_at
+    stamp-there g id n z d p q r = rw (e, d, p, r, q) refl
+
+-- taking by two frames is taking their stamp
 module _ (b : List Sender) (s : List ℕ) (frames : List Frame) where
   module _ (sender numbered : ℕ) (x : sender ≡ frame_place frames 2) (y : numbered ≡ frame_place frames 5) where
-    pub at-sender : (k p : ℕ) → outline s sender ≡ refused k p → refused k p ≡ taking_framed b s frames
-    unfolding taking_framed stamp_at
-    at-sender k p e = rw (← x, e) refl
+    pub at-fault : (k p : ℕ) → refused k p ≡ stamp_at s sender numbered → refused k p ≡ taking_framed b s frames
+    unfolding taking_framed
+    at-fault k p e = rw (← x, ← y, ← e) refl
 
-    module _ (f : Field) (e : outline s sender ≡ fine f) where
-      pub at-number : (k p : ℕ) → outline s numbered ≡ refused k p → refused k p ≡ taking_framed b s frames
-      unfolding taking_framed stamp_at
-      at-number k p d = rw (← x, ← y, e, d) refl
-
-      pub at-stamp : (g : Field) (id : List ℕ) (n : ℕ) (z : ℤ) → outline s numbered ≡ fine g
-          → id ≡ take f.size (drop f.first s) → n ≡ number_at s g.first g.size → z ≡ twos 64 n
-          → stamping b (stamped sender numbered f.code id z) ≡ taking_framed b s frames
-      unfolding taking_framed stamp_at
-      at-stamp g id n z d p q r = rw (← x, ← y, e, d, p, r, q) refl
+    pub at-stamp : (t : Stamp) → fine t ≡ stamp_at s sender numbered → stamping b t ≡ taking_framed b s frames
+    unfolding taking_framed
+    at-stamp t e = rw (← x, ← y, ← e) refl
 
 -- closing
 module _ (b : List Sender) (c : ℕ) (l : List ℕ) where

@@ -2,106 +2,56 @@
 // that finds an entry by id.
 #![tactic(auto)]
 
-ghost use Rattle.std.specs.Prelude.{◌≡◌, ◌≤◌, ◌<◌, length};
-ghost use Rattle.senders_book.specs.Book.{id_bytes, alike as alike_to, same_id, differs, entry_in, place_of, free_place};
+ghost use Rattle.std.specs.Prelude.{◌≡◌, not, position};
+ghost use Rattle.senders_book.specs.Book.{same_id, holds, place_of, free_place};
 
 use senders_book::{BOOK_PLACES, ID_BYTES, Id, Sender};
 
-// Whether the first n bytes of these two are the same.
-fn alike(x: [u8; ID_BYTES], y: [u8; ID_BYTES], n: usize) -> bool
-    requires { n ≤ id_bytes }
-    ensures { result ≡ alike_to n x y }
-{
-    let mut k: usize = 0;
-    while k < n {
-        if x[k] != y[k] {
-            return false;
-        }
-        k += 1;
-    }
-    true
-}
-
 // Whether these two are the same sender.
-fn same(x: Id, y: Id) -> bool
-    ensures { result ≡ same_id x y }
+#[tactic(auto, using(senders_book::proofs::IdLaws::alike_slices), unfolding(senders_book::specs::Book::same_id))]
+fn same(x: &Id, y: &Id) -> bool
+    ensures { result ≡ same_id x.now y.now }
 {
-    if x.code != y.code {
-        return false;
-    }
-    if x.length != y.length {
-        return false;
-    }
-    if ID_BYTES < y.length {
-        return false;
-    }
-    let a = x.bytes;
-    let b = y.bytes;
-    alike(a, b, y.length)
+    x.code == y.code
+        && x.length == y.length
+        && y.length <= ID_BYTES
+        && x.bytes[..y.length] == y.bytes[..y.length]
 }
 
-// Whether the place e holds another sender than this, or none.
-fn other(e: Sender, id: Id) -> bool
-    ensures { result ≡ differs e id }
+// Whether the place e holds this sender.
+#[tactic(auto, unfolding(senders_book::specs::Book::holds))]
+fn holds(e: &Sender, id: &Id) -> bool
+    ensures { result ≡ holds e.now id.now }
 {
-    if !e.held {
-        return true;
-    }
-    let x = e.id;
-    let found = same(x, id);
-    !found
+    e.held && same(&e.id, id)
 }
 
-// The entry at i of a lent list.
-fn entry_at(list: &[Sender], i: usize) -> Sender
-    requires { i < length list.now }
-    ensures { result ≡ entry_in list.now i }
+// The place in a lent list of the first entry that holds this sender.
+fn find(list: &[Sender], id: &Id) -> Option<usize>
+    ensures { result ≡ position (λ e. holds e id.now) list.now }
 {
-    list[i]
+    list.iter().position(|e| holds(e, id))
 }
 
-// Whether the entry at i of a lent list holds another sender than this, or none.
-fn other_at(list: &[Sender], i: usize, id: Id) -> bool
-    requires { i < length list.now }
-    ensures { result ≡ differs (entry_in list.now i) id }
+// The place in a lent list of the first entry that is free.
+fn find_free(list: &[Sender]) -> Option<usize>
+    ensures { result ≡ position (λ e. not e.held) list.now }
 {
-    let e = entry_at(list, i);
-    other(e, id)
-}
-
-// The place in a lent list of the first entry that holds this sender, or the list's length where none does.
-fn find(list: &[Sender], id: Id) -> usize
-    ensures { result ≡ place_of list.now id }
-{
-    let mut i: usize = 0;
-    while i < list.len() {
-        let go = other_at(list, i, id);
-        if go {} else {
-            break;
-        }
-        i += 1;
-    }
-    i
+    list.iter().position(|e| !e.held)
 }
 
 // The first place of a book that holds this sender, or the number of places where none does.
+#[tactic(auto, using(senders_book::proofs::PlaceLaws::place_found))]
 pub fn place_of(senders: [Sender; BOOK_PLACES], id: Id) -> usize
     ensures { result ≡ place_of senders id }
 {
-    find(&senders, id)
+    find(&senders, &id).unwrap_or(BOOK_PLACES)
 }
 
 // The first free place of a book, or the number of places where none is free.
+#[tactic(auto, using(senders_book::proofs::PlaceLaws::free_found))]
 pub fn free_place(senders: [Sender; BOOK_PLACES]) -> usize
     ensures { result ≡ free_place senders }
 {
-    let mut i: usize = 0;
-    while i < BOOK_PLACES {
-        let e = senders[i];
-        if !e.held {
-            return i;
-        }
-        i += 1;
-    }
-    i
+    find_free(&senders).unwrap_or(BOOK_PLACES)
 }

@@ -14,3 +14,4 @@ pub mod BlankLaws
 pub mod BuildLaws
 pub mod Demand3
 pub mod PlaceLaws
+pub mod Passing

@@ -6,7 +6,6 @@ ghost use Rattle.recordings_format.specs.Edition.{newest};
 ghost use Rattle.recordings_format.specs.Judge.{opening, places_after, asking};
 ghost use Rattle.recordings.specs.Recordings.{count_of};
 ghost use Rattle.recordings_salvaging.specs.Salvage.{salvage as salvage_of, output_after};
-ghost use Rattle.recordings_salvaging.specs.Saving.{salvaged_as};
 ghost use Rattle.boundary_crossing.specs.Numbers.{length_numbers};
 ghost use Rattle.boundary_giving.specs.Given.{given, returned, answer_after};
 ghost use Rattle.boundary_recordings.specs.Numbers.{place_numbers, salvage_numbers};
@@ -57,7 +56,7 @@ pub extern "C" fn sim0mq_recording_ask(recording: &[u8], k: u64, answer: &mut [u
 #[unsafe(no_mangle)]
 pub extern "C" fn sim0mq_salvage(file: &[u8], out: &mut [u8], answer: &mut [u64]) -> u32
     ensures returned { result ≡ returned 8 answer.old
-        (salvage_numbers (salvaged_as (salvage_of newest (length out.old) file.now))) }
+        (salvage_numbers (salvage_of newest (length out.old) file.now)) }
     ensures written { out.new
         ≡ given 8 answer.old
         (output_after newest file.now out.old
@@ -65,7 +64,7 @@ pub extern "C" fn sim0mq_salvage(file: &[u8], out: &mut [u8], answer: &mut [u64]
         out.old }
     ensures answered { answer.new
         ≡ answer_after 8 answer.old
-        (salvage_numbers (salvaged_as (salvage_of newest (length out.old) file.now))) }
+        (salvage_numbers (salvage_of newest (length out.old) file.now)) }
 {
     boundary_recordings::sim0mq_salvage(file, out, answer)
 }

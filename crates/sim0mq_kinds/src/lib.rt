@@ -1,7 +1,9 @@
 // The kinds of a scalar value, and the float or double that some bits write.
 #![tactic(auto)]
 
-ghost use Rattle.std.specs.Prelude.{◌≡◌};
+ghost use Rattle.std.specs.Prelude.{◌≡◌, cond};
+ghost use Rattle.std.specs.Float.{binary32, binary64};
+ghost use Rattle.std.specs.Float.Ieee.{nan_bits, of_bits};
 ghost use Rattle.sim0mq_kinds.specs.Kinds.{float_of, double_of, with_float, with_double};
 
 // A unit mark: unit type, currency code and display code, 0 where the mark has none.
@@ -31,55 +33,79 @@ pub enum Scalar {
 }
 
 // The bits of a float's infinity, and its sign's bit: bits that are above infinity's without the sign are a NaN.
-pub const FLOAT_INFINITY: u32 = 2139095040;
+pub const FLOAT_INFINITY: u32 = 0x7f80_0000;
 
-pub const FLOAT_SIGN: u32 = 2147483648;
+pub const FLOAT_SIGN: u32 = 0x8000_0000;
 
 // The same of a double.
-pub const DOUBLE_INFINITY: u64 = 9218868437227405312;
+pub const DOUBLE_INFINITY: u64 = 0x7ff0_0000_0000_0000;
 
-pub const DOUBLE_SIGN: u64 = 9223372036854775808;
+pub const DOUBLE_SIGN: u64 = 0x8000_0000_0000_0000;
+
+// The float of these bits, where they are not a NaN.
+#[tactic(auto, using(crate::proofs::Nan::nan_tests))]
+fn float(bits: u32) -> Option<f32>
+    ensures { result ≡ cond (nan_bits binary32 bits) None (Some (of_bits binary32 bits)) }
+{
+    if FLOAT_INFINITY < bits % FLOAT_SIGN {
+        None
+    } else {
+        Some(f32::from_bits(bits))
+    }
+}
+
+// The double of these bits, where they are not a NaN.
+#[tactic(auto, using(crate::proofs::Nan::nan_tests))]
+fn double(bits: u64) -> Option<f64>
+    ensures { result ≡ cond (nan_bits binary64 bits) None (Some (of_bits binary64 bits)) }
+{
+    if DOUBLE_INFINITY < bits % DOUBLE_SIGN {
+        None
+    } else {
+        Some(f64::from_bits(bits))
+    }
+}
 
 // The float of these bits, of a field of code 4; or that they are not a number.
+#[tactic(auto, unfolding(crate::specs::Kinds::float_of))]
 pub fn float_of(x: u32) -> Scalar
     ensures { result ≡ float_of x }
 {
-    if FLOAT_INFINITY < x % FLOAT_SIGN {
-        Scalar::NotNumber(4)
-    } else {
-        Scalar::Float(f32::from_bits(x))
+    match float(x) {
+        Some(value) => Scalar::Float(value),
+        None => Scalar::NotNumber(4),
     }
 }
 
 // The double of these bits, of a field of code 5; or that they are not a number.
+#[tactic(auto, unfolding(crate::specs::Kinds::double_of))]
 pub fn double_of(x: u64) -> Scalar
     ensures { result ≡ double_of x }
 {
-    if DOUBLE_INFINITY < x % DOUBLE_SIGN {
-        Scalar::NotNumber(5)
-    } else {
-        Scalar::Double(f64::from_bits(x))
+    match double(x) {
+        Some(value) => Scalar::Double(value),
+        None => Scalar::NotNumber(5),
     }
 }
 
 // The float of these bits with its mark, of a field of code 25; or that they are not a number.
+#[tactic(auto, unfolding(crate::specs::Kinds::with_float))]
 pub fn float_with(bits: u32, mark: Mark) -> Scalar
     ensures { result ≡ with_float bits mark }
 {
-    if FLOAT_INFINITY < bits % FLOAT_SIGN {
-        Scalar::NotNumber(25)
-    } else {
-        Scalar::FloatUnit(f32::from_bits(bits), mark)
+    match float(bits) {
+        Some(value) => Scalar::FloatUnit(value, mark),
+        None => Scalar::NotNumber(25),
     }
 }
 
 // The double of these bits with its mark, of a field of code 26; or that they are not a number.
+#[tactic(auto, unfolding(crate::specs::Kinds::with_double))]
 pub fn double_with(bits: u64, mark: Mark) -> Scalar
     ensures { result ≡ with_double bits mark }
 {
-    if DOUBLE_INFINITY < bits % DOUBLE_SIGN {
-        Scalar::NotNumber(26)
-    } else {
-        Scalar::DoubleUnit(f64::from_bits(bits), mark)
+    match double(bits) {
+        Some(value) => Scalar::DoubleUnit(value, mark),
+        None => Scalar::NotNumber(26),
     }
 }

@@ -8,10 +8,9 @@ use lib.ListN.{length}
 use borrow.Author.Tests.{le-leb, lt-leb, lt-ltb, le-ltb}
 use Rattle.sim0mq.specs.Answer.{fine, refused, byte, big, not_negative}
 use Rattle.sim0mq.specs.Field.{count}
-use Rattle.sim0mq.specs.declared.Judged.{Judged}
-use Rattle.sim0mq.specs.declared.Judged.TheVariants.{Accepted, Refused}
-use Rattle.sim0mq.specs.Views.{judged}
-use Rattle.sim0mq.proofs.Answers.{not_fine}
+use Rattle.std.specs.Prelude.{Result, Ok, Err}
+use Rattle.std.specs.Result.{IsErrAnd}
+use Rattle.sim0mq.specs.declared.Refusal.{Refusal}
 use Rattle.sim0mq_numbers.specs.Numbers.{Below, number_at}
 
 -- numbers
@@ -49,6 +48,6 @@ module _ (s : List ℕ) (at : ℕ) where
       simp (le-leb (at + 4) (length s) h, lt-ltb (byte s at) 128 k) (ap fine (sym b))
 
 -- a refusal has no number to be below
-pub below_refused : {k p : ℕ} (m : ℕ) (r : Judged) → judged r ≡ refused k p → Below m r
-below_refused m (Accepted n) e = absurd (not_fine (sym e))
-below_refused m (Refused r) e = tt
+pub below_refused : (m : ℕ) (r : Result ℕ Refusal) (e : Refusal) → IsErrAnd r (λ y. y ≡ e) → Below m r
+below_refused m (Ok n) e h = absurd h
+below_refused m (Err r) e h = tt

@@ -6,7 +6,7 @@ ghost use Rattle.sim0mq.specs.Field.{count as count_of};
 ghost use Rattle.sim0mq.specs.Views.{judged};
 ghost use Rattle.sim0mq_numbers.specs.Numbers.{number_at, Below};
 
-use sim0mq::Judged;
+use sim0mq::{Reason, Refusal, refuse};
 
 // A byte as a number.
 pub fn wide(x: u8) -> usize
@@ -36,26 +36,24 @@ pub fn number(s: &[u8], at: usize, n: usize) -> usize
         return 0;
     }
     let mut x: usize = 0;
-    let mut i: usize = 0;
-    while i < n {
+    for i in 0..n {
         x = x * 256 + wide(s[at + i]);
-        i += 1;
     }
     x
 }
 
 // The count at `at`: four bytes, not negative.
-pub fn count(s: &[u8], at: usize) -> Judged
+pub fn count(s: &[u8], at: usize) -> Result<usize, Refusal>
     ensures { (judged result ≡ count_of s.now at) × Below 4294967296 result }
 {
     if s.len() <= at {
-        return sim0mq::refuse(1, s.len());
+        return refuse(Reason::BytesEnd, s.len());
     }
     if s.len() - at < 4 {
-        return sim0mq::refuse(1, s.len());
+        return refuse(Reason::BytesEnd, s.len());
     }
     if 128 <= s[at] {
-        return sim0mq::refuse(5, at);
+        return refuse(Reason::NegativeCount, at);
     }
-    Judged::Accepted(number(s, at, 4))
+    Ok(number(s, at, 4))
 }

@@ -1,30 +1,18 @@
--- The code reads a signed number as -1 - (2 ^ w - 1 - n) where n's top bit is set, since no step of that leaves its
--- width.
-use Prim.Native.Nat.{ℕ, zero, suc, ◌-◌, ◌<◌, ◌≤◌, ◌^◌}
-use mathlib.Core.Path.{◌≡◌, refl, ap, ◌∙◌}
+-- A signed number is read back from its bits, and a number that is flipped, -1 less it, stays within its width.
+use Prim.Native.Nat.{ℕ, suc, ◌-◌, ◌<◌, ◌≤◌, ◌^◌}
+use mathlib.Core.Path.{◌≡◌, refl, ◌∙◌}
 use mathlib.Core.Bool.{Bool, true, false, cond}
 use lib.Dec.{T, ltb}
 use lib.IntN.{ℤ, pos, negsuc, ◌-ℤ◌, nat_abs}
 use lib.Signed.{mag, non_neg, le_z}
 use native.Mathlib.Omega.{arith}
-use borrow.Author.Tests.{lt-ltb, le-ltb, leb-false}
+use Rattle.std.proofs.lemmas.Int.{ints}
+use borrow.Author.Tests.{leb-false}
 use mir.Syntax.{Width, w8, w16, w32, w64, w128}
 use mir.Val.{SFits, Fits, to_z, of_z, hbits, bits}
-use mir.ValLaws.{to_z_pos, to_z-of_z}
+use mir.ValLaws.{to_z-of_z}
 use mir.Facts.{Fits-nat_abs}
 use Rattle.sim0mq_signed.specs.Signed.{twos, bits_of}
-
-minus_one : (y : ℕ) → negsuc 0 -ℤ pos y ≡ negsuc y
-minus_one zero = refl
-minus_one (suc n) = ap negsuc (omega arith)
-
-pub twos_low : (w n : ℕ) → n < 2 ^ (w - 1) → twos w n ≡ pos n
-unfolding twos
-twos_low w n h = simp (lt-ltb _ _ h)
-
-pub twos_high : (w n : ℕ) → 2 ^ (w - 1) ≤ n → twos w n ≡ negsuc (2 ^ w - suc n)
-unfolding twos
-twos_high w n h = simp (le-ltb _ _ h)
 
 -- the bits of a signed number are those it was read from
 pub bits_back : (w n : ℕ) → n < 2 ^ w → bits_of w (twos w n) ≡ n
@@ -38,7 +26,7 @@ bits_back w n h = either (ltb n (2 ^ (w - 1)))
 -- -1 - y of a y that a signed number of the width holds.
 module _ (w : Width) (y : ℕ) (h : y < 2 ^ hbits w) where
   flip : negsuc 0 -ℤ to_z w y ≡ negsuc y
-  flip = rw (to_z_pos w y h) (minus_one y)
+  flip = omega (arith, ints)
 
   pub flip_fits : SFits w (negsuc 0 -ℤ to_z w y)
   flip_fits = rw flip (record { sfits = h })
@@ -48,7 +36,7 @@ module _ (w : Width) (y : ℕ) (h : y < 2 ^ hbits w) where
 
 unflip : (z : ℤ) → le_z (pos 0) z ≡ false → negsuc 0 -ℤ z ≡ pos (mag z)
 unflip (pos n) e = let h : n < 0 = leb-false 0 n e in absurd (omega arith)
-unflip (negsuc n) e = rw (le-ltb (suc n) 1 (omega arith)) (ap pos (omega arith))
+unflip (negsuc n) e = omega (arith, ints)
 
 wide : (w : Width) → T (ltb (hbits w) (bits w))
 wide w8 = tt
@@ -61,7 +49,7 @@ wide w128 = tt
 module _ (w : Width) where
   up_is : (z : ℤ) → le_z (pos 0) z ≡ true → SFits w z → T (non_neg z) × Fits w (nat_abs z)
   up_is (pos n) e f = (tt, Fits-nat_abs {w = w} {w' = w} {z = pos n} (wide w) f)
-  up_is (negsuc n) e f = let q : ◌≡◌ {A = Bool} false true = e in let o : ◌≡◌ {A = ℕ} 0 1 = cc in absurd (omega arith)
+  up_is (negsuc n) e f = cc
 
   module _ (z : ℤ) (f : SFits w z) where
     pub up : le_z (pos 0) (to_z w (of_z w z)) ≡ true → T (non_neg (to_z w (of_z w z))) × Fits w (nat_abs (to_z w (of_z w z)))

@@ -7,6 +7,7 @@ ghost use Rattle.std.specs.Prelude.{◌≡◌, ◌≤◌, get_or};
 ghost use Rattle.sim0mq.specs.Codes.{counts_of, marking_of, width_of};
 ghost use Rattle.sim0mq.specs.Mark.{last_row, per_row};
 ghost use Rattle.sim0mq_tables.specs.Bits.{bit};
+ghost use Rattle.sim0mq_tables.specs.Markings.{marking_number};
 
 use sim0mq_numbers::wide;
 
@@ -85,20 +86,28 @@ pub fn counts(code: usize) -> usize
     0
 }
 
-// The marks of a field code: 0 for none, 1 for one, 2 for one per column.
-pub fn marking(code: usize) -> usize
-    ensures { result ≡ marking_of code }
+// How many marks a field has: none, one, or one per column.
+#[derive(Clone, Copy)]
+pub enum Marked {
+    None,
+    One,
+    PerColumn,
+}
+
+// The marks of a field code.
+pub fn marking(code: usize) -> Marked
+    ensures { marking_number result ≡ marking_of code }
 {
     if 32 < code {
-        return 0;
+        return Marked::None;
     }
     if 30 < code {
-        return 2;
+        return Marked::PerColumn;
     }
     if 24 < code {
-        return 1;
+        return Marked::One;
     }
-    0
+    Marked::None
 }
 
 // Whether code is one of these codes: a bit for each, the last code's first.

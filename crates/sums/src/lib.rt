@@ -3,70 +3,34 @@
 #![tactic(auto)]
 
 ghost use Rattle.std.specs.Prelude.{◌≡◌};
-ghost use Rattle.sim0mq.specs.Answer.{refused};
 ghost use Rattle.asking_scalars.specs.Scalars.{valued};
 ghost use Rattle.sums_pairs.specs.Views.{seen};
 ghost use Rattle.sums.specs.Sums.{finite as finite_of, sum_of, difference_of};
-ghost use Rattle.sums.specs.Views.{known_as, read_of, AreRead, shown_as, resulting};
+ghost use Rattle.sums.specs.Views.{known_as, read_of, shown_as, resulting};
 
-use asking_scalars::answer::Value;
-use sim0mq::Refusal;
+use sim0mq::{Reason, Refusal, refuse};
 use sim0mq_kinds::{Mark, Scalar};
 use sums_pairs::{Quantity, add, quantity_of, subtract};
 use sums_quantities::shown::Shown;
 use writing_encoding::mark_taken;
 
-// What a scalar is read as: a quantity, or none.
-#[derive(Clone, Copy)]
-enum Known {
-    Is(Quantity),
-    None,
-}
-
-// What two scalars are read as: two quantities, or not.
-#[derive(Clone, Copy)]
-enum Both {
-    Are(Quantity, Quantity),
-    Neither,
-}
-
-// The quantity that a scalar is; none where it is no double with a mark that reading gives.
-fn read(a: Scalar) -> Known
+// The quantity that a scalar is; 17 where it is no double with a mark that reading gives.
+fn read(a: Scalar) -> Result<Quantity, Refusal>
     ensures { known_as result ≡ read_of a }
 {
     match a {
         Scalar::DoubleUnit(value, mark) => {
             if !mark_taken(mark) {
-                return Known::None;
+                return refuse(Reason::Kind, 0);
             }
             let x = Shown {
                 value,
                 display: mark.display,
             };
-            Known::Is(quantity_of(mark.unit, x))
+            Ok(quantity_of(mark.unit, x))
         }
-        _ => Known::None,
+        _ => refuse(Reason::Kind, 0),
     }
-}
-
-// The quantities that two scalars are.
-fn operands(a: Scalar, b: Scalar) -> Both
-    ensures { AreRead a b result }
-{
-    match read(a) {
-        Known::None => Both::Neither,
-        Known::Is(x) => match read(b) {
-            Known::None => Both::Neither,
-            Known::Is(y) => Both::Are(x, y),
-        },
-    }
-}
-
-// The refusal of this number.
-fn refuse(number: u32) -> Value
-    ensures { valued result ≡ refused number 0 }
-{
-    Value::Refused(Refusal { place: 0, number })
 }
 
 // Whether x is a number and no infinity: an infinity less itself is a NaN, and a NaN differs from itself.
@@ -78,22 +42,22 @@ fn finite(x: f64) -> bool
 }
 
 // A number of this unit type as a scalar, where it is finite.
-fn told(unit: u8, x: Shown) -> Value
+fn told(unit: u8, x: Shown) -> Result<Scalar, Refusal>
     ensures { valued result ≡ shown_as unit x }
 {
     if !finite(x.value) {
-        return refuse(25);
+        return refuse(Reason::NotFinite, 0);
     }
     let mark = Mark {
         unit,
         currency: 0,
         display: x.display,
     };
-    Value::Is(Scalar::DoubleUnit(x.value, mark))
+    Ok(Scalar::DoubleUnit(x.value, mark))
 }
 
 // A quantity as a scalar; the refusal where it is none, or is not finite.
-fn result(q: Quantity) -> Value
+fn result(q: Quantity) -> Result<Scalar, Refusal>
     ensures { valued result ≡ resulting (seen q) }
 {
     match q {
@@ -105,26 +69,24 @@ fn result(q: Quantity) -> Value
         Quantity::Direction(x) => told(4, x.0),
         Quantity::Temperature(x) => told(23, x.0),
         Quantity::AbsoluteTemperature(x) => told(24, x.0),
-        Quantity::Other => refuse(24),
+        Quantity::Other => refuse(Reason::Pair, 0),
     }
 }
 
 // The sum of two scalars, or the refusal.
-pub fn sum(a: Scalar, b: Scalar) -> Value
+pub fn sum(a: Scalar, b: Scalar) -> Result<Scalar, Refusal>
     ensures { valued result ≡ sum_of a b }
 {
-    match operands(a, b) {
-        Both::Are(x, y) => result(add(x, y)),
-        Both::Neither => refuse(17),
-    }
+    let x = read(a)?;
+    let y = read(b)?;
+    result(add(x, y))
 }
 
 // The difference of two scalars, the second taken from the first; or the refusal.
-pub fn difference(a: Scalar, b: Scalar) -> Value
+pub fn difference(a: Scalar, b: Scalar) -> Result<Scalar, Refusal>
     ensures { valued result ≡ difference_of a b }
 {
-    match operands(a, b) {
-        Both::Are(x, y) => result(subtract(x, y)),
-        Both::Neither => refuse(17),
-    }
+    let x = read(a)?;
+    let y = read(b)?;
+    result(subtract(x, y))
 }

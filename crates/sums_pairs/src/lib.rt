@@ -6,9 +6,11 @@ ghost use Rattle.std.specs.Prelude.{◌≡◌};
 ghost use Rattle.sums_pairs.specs.Pairs.{quantity_at, quantity_sum, quantity_difference};
 ghost use Rattle.sums_pairs.specs.Views.{seen, combined};
 
+use sums_quantities::absolute::Absolute;
 use sums_quantities::angles::{Angle, Direction};
 use sums_quantities::durations::{Duration, Time};
 use sums_quantities::lengths::{Length, Position};
+use sums_quantities::relative::Relative;
 use sums_quantities::shown::Shown;
 use sums_quantities::temperatures::{AbsoluteTemperature, Temperature};
 
@@ -27,6 +29,7 @@ pub enum Quantity {
 }
 
 // The quantity of this unit type.
+#[tactic(auto, unfolding(crate::specs::Pairs::quantity_in))]
 pub fn quantity_of(unit: u8, x: Shown) -> Quantity
     ensures { seen result ≡ quantity_at unit x }
 {
@@ -44,95 +47,49 @@ pub fn quantity_of(unit: u8, x: Shown) -> Quantity
 }
 
 // The sum of two quantities, where the manual has one.
+#[tactic(auto, unfolding(crate::specs::Pairs::quantity_sum))]
 pub fn add(a: Quantity, b: Quantity) -> Quantity
     ensures { seen result ≡ combined quantity_sum (seen a) (seen b) }
 {
-    match a {
-        Quantity::Length(x) => match b {
-            Quantity::Length(y) => Quantity::Length(x.plus(y)),
-            Quantity::Position(y) => Quantity::Position(x.plus_position(y)),
-            _ => Quantity::Other,
-        },
-        Quantity::Position(x) => match b {
-            Quantity::Length(y) => Quantity::Position(x.plus(y)),
-            _ => Quantity::Other,
-        },
-        Quantity::Duration(x) => match b {
-            Quantity::Duration(y) => Quantity::Duration(x.plus(y)),
-            Quantity::Time(y) => Quantity::Time(x.plus_time(y)),
-            _ => Quantity::Other,
-        },
-        Quantity::Time(x) => match b {
-            Quantity::Duration(y) => Quantity::Time(x.plus(y)),
-            _ => Quantity::Other,
-        },
-        Quantity::Angle(x) => match b {
-            Quantity::Angle(y) => Quantity::Angle(x.plus(y)),
-            Quantity::Direction(y) => Quantity::Direction(x.plus_direction(y)),
-            _ => Quantity::Other,
-        },
-        Quantity::Direction(x) => match b {
-            Quantity::Angle(y) => Quantity::Direction(x.plus(y)),
-            _ => Quantity::Other,
-        },
-        Quantity::Temperature(x) => match b {
-            Quantity::Temperature(y) => Quantity::Temperature(x.plus(y)),
-            Quantity::AbsoluteTemperature(y) => Quantity::AbsoluteTemperature(
-                x.plus_absolute_temperature(y),
-            ),
-            _ => Quantity::Other,
-        },
-        Quantity::AbsoluteTemperature(x) => match b {
-            Quantity::Temperature(y) => Quantity::AbsoluteTemperature(x.plus(y)),
-            _ => Quantity::Other,
-        },
-        Quantity::Other => Quantity::Other,
+    match (a, b) {
+        (Quantity::Length(x), Quantity::Length(y)) => Quantity::Length(x.plus(y)),
+        (Quantity::Length(x), Quantity::Position(y)) => Quantity::Position(x.plus_absolute(y)),
+        (Quantity::Position(x), Quantity::Length(y)) => Quantity::Position(x.plus(y)),
+        (Quantity::Duration(x), Quantity::Duration(y)) => Quantity::Duration(x.plus(y)),
+        (Quantity::Duration(x), Quantity::Time(y)) => Quantity::Time(x.plus_absolute(y)),
+        (Quantity::Time(x), Quantity::Duration(y)) => Quantity::Time(x.plus(y)),
+        (Quantity::Angle(x), Quantity::Angle(y)) => Quantity::Angle(x.plus(y)),
+        (Quantity::Angle(x), Quantity::Direction(y)) => Quantity::Direction(x.plus_absolute(y)),
+        (Quantity::Direction(x), Quantity::Angle(y)) => Quantity::Direction(x.plus(y)),
+        (Quantity::Temperature(x), Quantity::Temperature(y)) => Quantity::Temperature(x.plus(y)),
+        (Quantity::Temperature(x), Quantity::AbsoluteTemperature(y)) =>
+            Quantity::AbsoluteTemperature(x.plus_absolute(y)),
+        (Quantity::AbsoluteTemperature(x), Quantity::Temperature(y)) =>
+            Quantity::AbsoluteTemperature(x.plus(y)),
+        _ => Quantity::Other,
     }
 }
 
 // The difference of two quantities, where the manual has one.
+#[tactic(auto, unfolding(crate::specs::Pairs::quantity_difference))]
 pub fn subtract(a: Quantity, b: Quantity) -> Quantity
     ensures { seen result ≡ combined quantity_difference (seen a) (seen b) }
 {
-    match a {
-        Quantity::Length(x) => match b {
-            Quantity::Length(y) => Quantity::Length(x.less(y)),
-            _ => Quantity::Other,
-        },
-        Quantity::Position(x) => match b {
-            Quantity::Length(y) => Quantity::Position(x.less(y)),
-            Quantity::Position(y) => Quantity::Length(x.less_position(y)),
-            _ => Quantity::Other,
-        },
-        Quantity::Duration(x) => match b {
-            Quantity::Duration(y) => Quantity::Duration(x.less(y)),
-            _ => Quantity::Other,
-        },
-        Quantity::Time(x) => match b {
-            Quantity::Duration(y) => Quantity::Time(x.less(y)),
-            Quantity::Time(y) => Quantity::Duration(x.less_time(y)),
-            _ => Quantity::Other,
-        },
-        Quantity::Angle(x) => match b {
-            Quantity::Angle(y) => Quantity::Angle(x.less(y)),
-            _ => Quantity::Other,
-        },
-        Quantity::Direction(x) => match b {
-            Quantity::Angle(y) => Quantity::Direction(x.less(y)),
-            Quantity::Direction(y) => Quantity::Angle(x.less_direction(y)),
-            _ => Quantity::Other,
-        },
-        Quantity::Temperature(x) => match b {
-            Quantity::Temperature(y) => Quantity::Temperature(x.less(y)),
-            _ => Quantity::Other,
-        },
-        Quantity::AbsoluteTemperature(x) => match b {
-            Quantity::Temperature(y) => Quantity::AbsoluteTemperature(x.less(y)),
-            Quantity::AbsoluteTemperature(y) => Quantity::Temperature(x.less_absolute_temperature(
-                y,
-            )),
-            _ => Quantity::Other,
-        },
-        Quantity::Other => Quantity::Other,
+    match (a, b) {
+        (Quantity::Length(x), Quantity::Length(y)) => Quantity::Length(x.less(y)),
+        (Quantity::Position(x), Quantity::Length(y)) => Quantity::Position(x.less(y)),
+        (Quantity::Position(x), Quantity::Position(y)) => Quantity::Length(x.less_absolute(y)),
+        (Quantity::Duration(x), Quantity::Duration(y)) => Quantity::Duration(x.less(y)),
+        (Quantity::Time(x), Quantity::Duration(y)) => Quantity::Time(x.less(y)),
+        (Quantity::Time(x), Quantity::Time(y)) => Quantity::Duration(x.less_absolute(y)),
+        (Quantity::Angle(x), Quantity::Angle(y)) => Quantity::Angle(x.less(y)),
+        (Quantity::Direction(x), Quantity::Angle(y)) => Quantity::Direction(x.less(y)),
+        (Quantity::Direction(x), Quantity::Direction(y)) => Quantity::Angle(x.less_absolute(y)),
+        (Quantity::Temperature(x), Quantity::Temperature(y)) => Quantity::Temperature(x.less(y)),
+        (Quantity::AbsoluteTemperature(x), Quantity::Temperature(y)) =>
+            Quantity::AbsoluteTemperature(x.less(y)),
+        (Quantity::AbsoluteTemperature(x), Quantity::AbsoluteTemperature(y)) =>
+            Quantity::Temperature(x.less_absolute(y)),
+        _ => Quantity::Other,
     }
 }

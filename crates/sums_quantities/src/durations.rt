@@ -1,8 +1,8 @@
-// Duration and Time: the manual's sums of them, and no other.
-ghost use Rattle.std.specs.Prelude.{◌≡◌};
-ghost use Rattle.sums_quantities.specs.Numbers.{plus as plus_of, less as less_of};
-
-use crate::shown::{Shown, less, plus};
+// Duration and Time, which make a pair: their sums are those of relative.rt and absolute.rt, alone.
+use crate::absolute::Absolute;
+use crate::quantity::Quantity;
+use crate::relative::Relative;
+use crate::shown::Shown;
 
 // A duration, which is relative: unit type 25.
 #[derive(Clone, Copy)]
@@ -12,48 +12,38 @@ pub struct Duration(pub Shown);
 #[derive(Clone, Copy)]
 pub struct Time(pub Shown);
 
-impl Duration {
-    // The sum of both, shown as the first is.
-    pub fn plus(self, b: Duration) -> Duration
-        ensures { result.0 ≡ plus_of self.0 b.0 self.0.display }
-    {
-        Duration(plus(self.0, b.0, self.0.display))
+impl Quantity for Duration {
+    ghost number = { λ a. a.0 };
+
+    ghost told_by_number = { λ a b e i. record { 0 = e i } };
+
+    fn of(x: Shown) -> Duration {
+        Duration(x)
     }
 
-    // The time that both make, shown as that time is.
-    pub fn plus_time(self, b: Time) -> Time
-        ensures { result.0 ≡ plus_of self.0 b.0 b.0.display }
-    {
-        Time(plus(self.0, b.0, b.0.display))
-    }
-
-    // What is left of the first, shown as it is.
-    pub fn less(self, b: Duration) -> Duration
-        ensures { result.0 ≡ less_of self.0 b.0 self.0.display }
-    {
-        Duration(less(self.0, b.0, self.0.display))
+    fn shown(self) -> Shown {
+        self.0
     }
 }
 
-impl Time {
-    // The time that both make, shown as the first is.
-    pub fn plus(self, b: Duration) -> Time
-        ensures { result.0 ≡ plus_of self.0 b.0 self.0.display }
-    {
-        Time(plus(self.0, b.0, self.0.display))
+impl Quantity for Time {
+    ghost number = { λ a. a.0 };
+
+    ghost told_by_number = { λ a b e i. record { 0 = e i } };
+
+    fn of(x: Shown) -> Time {
+        Time(x)
     }
 
-    // The time that is left, shown as the first is.
-    pub fn less(self, b: Duration) -> Time
-        ensures { result.0 ≡ less_of self.0 b.0 self.0.display }
-    {
-        Time(less(self.0, b.0, self.0.display))
+    fn shown(self) -> Shown {
+        self.0
     }
+}
 
-    // The duration between them, shown by 0.
-    pub fn less_time(self, b: Time) -> Duration
-        ensures { result.0 ≡ less_of self.0 b.0 0 }
-    {
-        Duration(less(self.0, b.0, 0))
-    }
+impl Relative for Duration {
+    type Absolute = Time;
+}
+
+impl Absolute for Time {
+    type Relative = Duration;
 }

@@ -1,8 +1,8 @@
-// Length and Position: the manual's sums of them, and no other.
-ghost use Rattle.std.specs.Prelude.{◌≡◌};
-ghost use Rattle.sums_quantities.specs.Numbers.{plus as plus_of, less as less_of};
-
-use crate::shown::{Shown, less, plus};
+// Length and Position, which make a pair: their sums are those of relative.rt and absolute.rt, alone.
+use crate::absolute::Absolute;
+use crate::quantity::Quantity;
+use crate::relative::Relative;
+use crate::shown::Shown;
 
 // A length, which is relative: unit type 16.
 #[derive(Clone, Copy)]
@@ -12,48 +12,38 @@ pub struct Length(pub Shown);
 #[derive(Clone, Copy)]
 pub struct Position(pub Shown);
 
-impl Length {
-    // The sum of both, shown as the first is.
-    pub fn plus(self, b: Length) -> Length
-        ensures { result.0 ≡ plus_of self.0 b.0 self.0.display }
-    {
-        Length(plus(self.0, b.0, self.0.display))
+impl Quantity for Length {
+    ghost number = { λ a. a.0 };
+
+    ghost told_by_number = { λ a b e i. record { 0 = e i } };
+
+    fn of(x: Shown) -> Length {
+        Length(x)
     }
 
-    // The position that both make, shown as that position is.
-    pub fn plus_position(self, b: Position) -> Position
-        ensures { result.0 ≡ plus_of self.0 b.0 b.0.display }
-    {
-        Position(plus(self.0, b.0, b.0.display))
-    }
-
-    // What is left of the first, shown as it is.
-    pub fn less(self, b: Length) -> Length
-        ensures { result.0 ≡ less_of self.0 b.0 self.0.display }
-    {
-        Length(less(self.0, b.0, self.0.display))
+    fn shown(self) -> Shown {
+        self.0
     }
 }
 
-impl Position {
-    // The position that both make, shown as the first is.
-    pub fn plus(self, b: Length) -> Position
-        ensures { result.0 ≡ plus_of self.0 b.0 self.0.display }
-    {
-        Position(plus(self.0, b.0, self.0.display))
+impl Quantity for Position {
+    ghost number = { λ a. a.0 };
+
+    ghost told_by_number = { λ a b e i. record { 0 = e i } };
+
+    fn of(x: Shown) -> Position {
+        Position(x)
     }
 
-    // The position that is left, shown as the first is.
-    pub fn less(self, b: Length) -> Position
-        ensures { result.0 ≡ less_of self.0 b.0 self.0.display }
-    {
-        Position(less(self.0, b.0, self.0.display))
+    fn shown(self) -> Shown {
+        self.0
     }
+}
 
-    // The length between them, shown by 0.
-    pub fn less_position(self, b: Position) -> Length
-        ensures { result.0 ≡ less_of self.0 b.0 0 }
-    {
-        Length(less(self.0, b.0, 0))
-    }
+impl Relative for Length {
+    type Absolute = Position;
+}
+
+impl Absolute for Position {
+    type Relative = Length;
 }

@@ -2,8 +2,11 @@
 // other.
 #![tactic(auto)]
 
+pub mod absolute;
 pub mod angles;
 pub mod durations;
 pub mod lengths;
+pub mod quantity;
+pub mod relative;
 pub mod shown;
 pub mod temperatures;

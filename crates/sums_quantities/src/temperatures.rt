@@ -1,8 +1,8 @@
-// Temperature and AbsoluteTemperature: the manual's sums of them, and no other.
-ghost use Rattle.std.specs.Prelude.{◌≡◌};
-ghost use Rattle.sums_quantities.specs.Numbers.{plus as plus_of, less as less_of};
-
-use crate::shown::{Shown, less, plus};
+// Temperature and AbsoluteTemperature, which make a pair: their sums are those of relative.rt and absolute.rt, alone.
+use crate::absolute::Absolute;
+use crate::quantity::Quantity;
+use crate::relative::Relative;
+use crate::shown::Shown;
 
 // A temperature, which is relative: unit type 23.
 #[derive(Clone, Copy)]
@@ -12,48 +12,38 @@ pub struct Temperature(pub Shown);
 #[derive(Clone, Copy)]
 pub struct AbsoluteTemperature(pub Shown);
 
-impl Temperature {
-    // The sum of both, shown as the first is.
-    pub fn plus(self, b: Temperature) -> Temperature
-        ensures { result.0 ≡ plus_of self.0 b.0 self.0.display }
-    {
-        Temperature(plus(self.0, b.0, self.0.display))
+impl Quantity for Temperature {
+    ghost number = { λ a. a.0 };
+
+    ghost told_by_number = { λ a b e i. record { 0 = e i } };
+
+    fn of(x: Shown) -> Temperature {
+        Temperature(x)
     }
 
-    // The absolute temperature that both make, shown as that absolute temperature is.
-    pub fn plus_absolute_temperature(self, b: AbsoluteTemperature) -> AbsoluteTemperature
-        ensures { result.0 ≡ plus_of self.0 b.0 b.0.display }
-    {
-        AbsoluteTemperature(plus(self.0, b.0, b.0.display))
-    }
-
-    // What is left of the first, shown as it is.
-    pub fn less(self, b: Temperature) -> Temperature
-        ensures { result.0 ≡ less_of self.0 b.0 self.0.display }
-    {
-        Temperature(less(self.0, b.0, self.0.display))
+    fn shown(self) -> Shown {
+        self.0
     }
 }
 
-impl AbsoluteTemperature {
-    // The absolute temperature that both make, shown as the first is.
-    pub fn plus(self, b: Temperature) -> AbsoluteTemperature
-        ensures { result.0 ≡ plus_of self.0 b.0 self.0.display }
-    {
-        AbsoluteTemperature(plus(self.0, b.0, self.0.display))
+impl Quantity for AbsoluteTemperature {
+    ghost number = { λ a. a.0 };
+
+    ghost told_by_number = { λ a b e i. record { 0 = e i } };
+
+    fn of(x: Shown) -> AbsoluteTemperature {
+        AbsoluteTemperature(x)
     }
 
-    // The absolute temperature that is left, shown as the first is.
-    pub fn less(self, b: Temperature) -> AbsoluteTemperature
-        ensures { result.0 ≡ less_of self.0 b.0 self.0.display }
-    {
-        AbsoluteTemperature(less(self.0, b.0, self.0.display))
+    fn shown(self) -> Shown {
+        self.0
     }
+}
 
-    // The temperature between them, shown by 0.
-    pub fn less_absolute_temperature(self, b: AbsoluteTemperature) -> Temperature
-        ensures { result.0 ≡ less_of self.0 b.0 0 }
-    {
-        Temperature(less(self.0, b.0, 0))
-    }
+impl Relative for Temperature {
+    type Absolute = AbsoluteTemperature;
+}
+
+impl Absolute for AbsoluteTemperature {
+    type Relative = Temperature;
 }

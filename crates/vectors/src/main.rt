@@ -2,8 +2,8 @@
 #![tactic(auto)]
 
 use std::{fs, io};
-use vectors_lines::{find, part};
-use vectors_runs::{Run, next};
+use vectors_lines::part;
+use vectors_runs::{Case, Run, next};
 use vectors_texts::{rewrites, values};
 
 // The run after its line; at the end of a case, that case is run.
@@ -15,54 +15,58 @@ fn turn(
     expected: &mut [u8],
 ) -> io::Result<Run> {
     let line = part(text, run.from, run.to);
-    if run.begun {
-        if check::same(line, b"end") {
-            return end(rt, text, run, message, expected);
-        }
+    if let Some(case) = run.begun
+        && line == b"end".as_slice()
+    {
+        return end(rt, text, run, case, message, expected);
     }
     vectors_runs::turn(rt, line, run, message, expected)
 }
 
 // `end`: the case is run, and its listing, or what asking, blanking or writing answers, compared. An accepted message
 // that writing does not give back has a line more, which no case expects.
-fn end(rt: &impl Print, text: &[u8], run: Run, message: &[u8], expected: &[u8]) -> io::Result<Run> {
+fn end(
+    rt: &impl Print,
+    text: &[u8],
+    run: Run,
+    case: Case,
+    message: &[u8],
+    expected: &[u8],
+) -> io::Result<Run> {
     let mut told = [0u8; 16384];
-    let own = part(message, 0, run.length);
-    let answered = answer(run, part(text, run.name_to, run.from), own, &mut told);
+    let own = part(message, 0, case.length);
+    let answered = answer(case, part(text, case.to, run.from), own, &mut told);
     let n = rewrites::answer(own, &mut told, answered);
     vectors_runs::ended(rt, text, run, part(&told, 0, n), expected)
 }
 
 // The length of the answer of the case that has these lines, put at the front of `out`: of what asking, blanking or
 // writing answers, or of the listing of `message`.
-fn answer(run: Run, text: &[u8], message: &[u8], out: &mut [u8]) -> usize {
-    if run.asks {
-        return values::answer(message, run.field, out);
+fn answer(case: Case, text: &[u8], message: &[u8], out: &mut [u8]) -> usize {
+    if let Some(k) = case.asks {
+        return values::answer(message, k, out);
     }
-    if run.blanks {
-        return vectors_copies::answer(message, run.output, out);
+    if case.blanks {
+        return vectors_copies::answer(message, case.output, out);
     }
-    if run.writes {
-        return vectors_calls::answer(text, message, run.output, out);
+    if case.writes {
+        return vectors_calls::answer(text, message, case.output, out);
     }
-    vectors_runs::listed(run, message, out)
+    vectors_runs::listed(case, message, out)
 }
 
 // The run of every line of `text`.
 fn all(rt: &impl Print, text: &[u8]) -> io::Result<Run> {
-    let mut message_room = [0u8; 66000];
-    let mut expected_room = [0u8; 16384];
-    let message: &mut [u8] = &mut message_room;
-    let expected: &mut [u8] = &mut expected_room;
+    let mut message = [0u8; 66000];
+    let mut expected = [0u8; 16384];
     let mut run = vectors_runs::start();
-    let mut at = 0;
-    while at < text.len() {
-        let to = find(text, at, b'\n');
+    let mut at = 0usize;
+    for line in text.split_inclusive(|b| *b == b'\n') {
         run.line = next(run.line);
         run.from = at;
-        run.to = to;
-        run = turn(rt, text, run, message, expected)?;
-        at = to + 1;
+        run.to = at.saturating_add(line.strip_suffix(b"\n").unwrap_or(line).len());
+        run = turn(rt, text, run, &mut message, &mut expected)?;
+        at = at.saturating_add(line.len());
     }
     Ok(run)
 }

@@ -2,10 +2,19 @@
 // The first byte of the output that the call may not change and did gets a line too, and so does a refused call that
 // hands back another state than it has to.
 use programs_pieces::{number, put};
-use sim0mq::{Judged, Refusal};
+use reading::Found;
+use sim0mq::Refusal;
 use vectors_copies::fault;
 use vectors_lines::part;
 use writing::{Writer, Wrote};
+
+// A call of the writer: its word, the state that it has to hand back where it is refused, and what it answered.
+#[derive(Clone, Copy)]
+pub(crate) struct Called {
+    pub(crate) word: &'static [u8],
+    pub(crate) left: Writer,
+    pub(crate) wrote: Wrote,
+}
 
 // The state that a refused opening hands back: closed, with every number 0.
 pub(crate) const NOTHING: Writer = Writer {
@@ -17,44 +26,36 @@ pub(crate) const NOTHING: Writer = Writer {
 
 // The bytes of `output` from `from` up to `to` in `kept`, where both have them.
 fn keep(output: &[u8], kept: &mut [u8], from: usize, to: usize) {
-    let mut i = from;
-    while i < to {
-        if kept.len() <= i {
-            return;
-        }
-        if output.len() <= i {
-            return;
-        }
-        kept[i] = output[i];
-        i += 1;
+    let end = to.min(kept.len()).min(output.len());
+    if from < end {
+        kept[from..end].copy_from_slice(&output[from..end]);
     }
 }
 
-// The place after the lines of a call with this word, put from `from` on. Refused, it has to hand back the state
-// `left`; granted, it may write from `left.written` on. The output held `kept` before it, which then holds what was
-// written too.
+// The place after the lines of a call, put from `from` on. Granted, it may write from `left.written` on. The output
+// held `kept` before it, which then holds what was written too.
 pub(crate) fn answer(
-    word: &[u8],
-    wrote: Wrote,
-    left: Writer,
+    call: Called,
     kept: &mut [u8],
     output: &[u8],
     out: &mut [u8],
     from: usize,
 ) -> usize {
-    let said = wrote.said;
-    let writer = wrote.writer;
-    match said {
-        Judged::Accepted(n) => {
-            let at = granted(word, n, out, from);
+    let left = call.left;
+    match call.wrote.said {
+        Ok(n) => {
+            let at = granted(call.word, n, out, from);
             let end = untouched(kept, output, left.written, n, out, at);
             keep(output, kept, left.written, n);
             end
         }
-        Judged::Refused(refusal) => {
-            let at = refused(refusal, out, from);
+        Err(refusal) => {
+            let at = listed(Err(refusal), out, from);
             let end = untouched(kept, output, 0, 0, out, at);
-            unmoved(writer, left, out, end)
+            if call.wrote.writer == left {
+                return end;
+            }
+            put(b"state moved\n", out, end)
         }
     }
 }
@@ -66,13 +67,11 @@ fn granted(word: &[u8], n: usize, out: &mut [u8], from: usize) -> usize {
     put(b"\n", out, at)
 }
 
-// The place after the line of a refusal, put from `from` on.
-fn refused(refusal: Refusal, out: &mut [u8], from: usize) -> usize {
-    let mut at = put(b"refused ", out, from);
-    at = number(refusal.number as u64, out, at);
-    at = put(b" at ", out, at);
-    at = number(refusal.place as u64, out, at);
-    put(b"\n", out, at)
+// The place after the first line of what reading answered, put from `from` on.
+fn listed(said: Result<Found, Refusal>, out: &mut [u8], from: usize) -> usize {
+    let mut line = [0u8; 128];
+    let n = programs_listing::first_line(said, &mut line);
+    put(part(&line, 0, n), out, from)
 }
 
 // The place after the line of the first byte of the output that was changed and does not stand from `first` up to
@@ -95,77 +94,30 @@ fn untouched(
 // The place of the first byte of the output, from `from` up to `to`, that is not as in `kept`; `to` where there is
 // none.
 fn changed(kept: &[u8], output: &[u8], from: usize, to: usize) -> usize {
-    let mut i = from;
-    while i < to {
-        if kept.len() <= i {
+    for i in from..to {
+        if output.get(i).is_none() || output.get(i) != kept.get(i) {
             return i;
         }
-        if output.len() <= i {
-            return i;
-        }
-        if output[i] != kept[i] {
-            return i;
-        }
-        i += 1;
     }
     to
-}
-
-// Whether byte i of `kept` is b.
-fn held(kept: &[u8], i: usize, b: u8) -> bool {
-    if kept.len() <= i {
-        return false;
-    }
-    kept[i] == b
-}
-
-// The place after the line that says that the state is not `left`; no line where it is.
-fn unmoved(writer: Writer, left: Writer, out: &mut [u8], from: usize) -> usize {
-    if same(writer, left) {
-        return from;
-    }
-    put(b"state moved\n", out, from)
-}
-
-// Whether two states are the same.
-fn same(a: Writer, b: Writer) -> bool {
-    if a.written != b.written {
-        return false;
-    }
-    if a.declared != b.declared {
-        return false;
-    }
-    if a.added != b.added {
-        return false;
-    }
-    a.closed == b.closed
 }
 
 // The place after reading's first line of the message that a granted closing left in the output; no line where it was
 // refused.
 pub(crate) fn read_back(wrote: Wrote, output: &[u8], out: &mut [u8], from: usize) -> usize {
-    let said = wrote.said;
-    match said {
-        Judged::Refused(_) => from,
-        Judged::Accepted(n) => {
-            let judged = reading::judge(part(output, 0, n));
-            let answered = judged.said;
-            let mut line = [0u8; 128];
-            let length = programs_listing::first_line(answered, &mut line);
-            put(part(&line, 0, length), out, from)
-        }
+    match wrote.said {
+        Ok(n) => listed(reading::judge(part(output, 0, n)).said, out, from),
+        Err(_) => from,
     }
 }
 
 // The place after the line of the first byte of the output that is not as in `bytes`, whose length counts as one where
 // the output is shorter; no line where the output begins with them.
 pub(crate) fn begins(bytes: &[u8], output: &[u8], out: &mut [u8], from: usize) -> usize {
-    let mut i = 0;
-    while i < bytes.len() {
-        if !held(output, i, bytes[i]) {
-            break;
-        }
-        i += 1;
-    }
+    let i = bytes
+        .iter()
+        .enumerate()
+        .position(|(i, b)| output.get(i) != Some(b))
+        .unwrap_or(bytes.len());
     fault(b"other at ", i, bytes.len(), out, from)
 }

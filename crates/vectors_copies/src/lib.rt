@@ -6,8 +6,7 @@
 ghost use Rattle.std.specs.Prelude.{◌≡◌, ◌≤◌, max, length};
 
 use programs_pieces::{number, put};
-use reading::Reading;
-use sim0mq::{Judged, Refusal};
+use sim0mq::Refusal;
 use vectors_lines::{ROOM, part, within};
 
 // Each byte of an output before anything is put into it.
@@ -22,15 +21,15 @@ pub fn answer(message: &[u8], room: usize, out: &mut [u8]) -> usize
     if ROOM < room {
         return 0;
     }
-    let end = blanked(message, &mut output[0..room], out);
+    let end = blanked(message, &mut output[..room], out);
     within(end, out)
 }
 
 // The length of what blanking `message` into this output answers.
 fn blanked(message: &[u8], output: &mut [u8], out: &mut [u8]) -> usize {
     match blanking::blank(message, output) {
-        Judged::Accepted(length) => accepted(message, output, length, out),
-        Judged::Refused(refusal) => refused(refusal, output, out),
+        Ok(length) => accepted(message, output, length, out),
+        Err(refusal) => refused(refusal, output, out),
     }
 }
 
@@ -53,18 +52,18 @@ fn accepted(message: &[u8], output: &[u8], length: usize, out: &mut [u8]) -> usi
 
 // The length of the lines of an output into which nothing was blanked.
 fn refused(refusal: Refusal, output: &[u8], out: &mut [u8]) -> usize {
-    let at = programs_listing::first_line(Reading::Refused(refusal), out);
+    let at = programs_listing::first_line(Err(refusal), out);
     fault(b"touched at ", touched(output, 0), output.len(), out, at)
 }
 
 // The place after a line for each run of bytes of the copy that were cleared, put from `from` on.
 fn runs(message: &[u8], copy: &[u8], out: &mut [u8], from: usize) -> usize {
     let mut at = from;
-    let mut i = 0;
-    while i < copy.len() {
-        let end = run(message, copy, i);
-        at = zero(i, end, out, at);
-        i = end + 1;
+    for i in 0..copy.len() {
+        let goes_on = 0 < i && cleared(message, copy, i - 1);
+        if cleared(message, copy, i) && !goes_on {
+            at = zero(i, run(message, copy, i), out, at);
+        }
     }
     at
 }
@@ -73,28 +72,17 @@ fn runs(message: &[u8], copy: &[u8], out: &mut [u8], from: usize) -> usize {
 fn run(message: &[u8], copy: &[u8], from: usize) -> usize
     ensures { (from ≤ result) × (result ≤ max from (length copy.now)) }
 {
-    let mut at = from;
-    while at < copy.len() {
-        if !cleared(message, copy, at) {
-            return at;
+    for i in from..copy.len() {
+        if !cleared(message, copy, i) {
+            return i;
         }
-        at += 1;
     }
-    at
+    from.max(copy.len())
 }
 
 // Whether byte i of the copy is zero and the message's is not.
 fn cleared(message: &[u8], copy: &[u8], i: usize) -> bool {
-    if message.len() <= i {
-        return false;
-    }
-    if copy.len() <= i {
-        return false;
-    }
-    if message[i] == 0 {
-        return false;
-    }
-    copy[i] == 0
+    copy.get(i) == Some(&0) && message.get(i).is_some_and(|b| *b != 0)
 }
 
 // The place after the line of a run of zeros, its first place and its last, put from `from` on; no line where the run
@@ -113,25 +101,10 @@ fn zero(first: usize, end: usize, out: &mut [u8], from: usize) -> usize {
 // The place of the first byte of the copy that is neither zero nor the message's own; the copy's length where there is
 // none.
 fn other(message: &[u8], copy: &[u8]) -> usize {
-    let mut i = 0;
-    while i < copy.len() {
-        if !own(message, copy[i], i) {
-            return i;
-        }
-        i += 1;
-    }
-    i
-}
-
-// Whether b, byte i of the copy, is zero or the message's own.
-fn own(message: &[u8], b: u8, i: usize) -> bool {
-    if b == 0 {
-        return true;
-    }
-    if message.len() <= i {
-        return false;
-    }
-    b == message[i]
+    copy.iter()
+        .enumerate()
+        .position(|(i, b)| *b != 0 && message.get(i) != Some(b))
+        .unwrap_or(copy.len())
 }
 
 // The place of the first byte of the output, from `from` on, that is not as it was before; a place past the output
@@ -139,14 +112,11 @@ fn own(message: &[u8], b: u8, i: usize) -> bool {
 pub fn touched(output: &[u8], from: usize) -> usize
     ensures { (from ≤ result) × (result ≤ max from (length output.now)) }
 {
-    let mut at = from;
-    while at < output.len() {
-        if output[at] != BEFORE {
-            return at;
-        }
-        at += 1;
+    let rest = part(output, from, output.len());
+    match rest.iter().position(|b| *b != BEFORE) {
+        Some(i) => from + i,
+        None => from.max(output.len()),
     }
-    at
 }
 
 // The place after the line of a fault, put from `from` on where its place is before `end`: its word and its place.

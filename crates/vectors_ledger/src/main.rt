@@ -2,17 +2,16 @@
 // The head of that file says what the commands are; what must be written stands in `stdout`.
 #![tactic(auto)]
 
-use ledger::Mustered;
-use ledger_decks::{DECKS, Ledger};
+use ledger::{Mustered, muster_framed};
+use ledger_decks::Ledger;
 use ledger_recordings::{Reckoned, reckon};
 use programs_pieces::put;
 use reading_header::Frame;
 use senders::Closed;
 use senders_book::Book;
-use sim0mq::{Judged, Refusal};
 use std::{fs, io};
-use vectors_lines::wholes::{Whole, signed};
-use vectors_lines::{find, part, spaced, starts};
+use vectors_lines::wholes::signed;
+use vectors_lines::{number, part, spaced};
 use vectors_tokens::added;
 
 // How many bytes a message has at most.
@@ -21,12 +20,6 @@ const ROOM: usize = 128;
 // How many bytes a recording has at most.
 const RECORDING: usize = 1024;
 
-// The largest signed number.
-const MOST: usize = 9223372036854775807;
-
-// The largest number of 64 bits.
-const ALL: u64 = 18446744073709551615;
-
 // The ledger and the book.
 #[derive(Clone, Copy)]
 struct Both {
@@ -34,44 +27,21 @@ struct Both {
     book: Book,
 }
 
-// Writes a text.
-fn say(rt: &impl Print, text: &[u8]) -> io::Result<()> {
-    rt.write_all(text)
-}
-
-// Writes a number after a space.
-fn figure(rt: &impl Print, n: usize) -> io::Result<()> {
-    print!(rt; " {n}")
-}
-
 // Writes a line that is not understood, and hands back ledger and book.
 fn lost(rt: &impl Print, line: &[u8], both: Both) -> io::Result<Both> {
-    say(rt, b"unknown: ")?;
-    say(rt, line)?;
-    say(rt, b"\n")?;
+    rt.write_all(b"unknown: ")?;
+    rt.write_all(line)?;
+    println!(rt)?;
     Ok(both)
-}
-
-// Writes a refusal.
-fn refused(rt: &impl Print, r: Refusal) -> io::Result<()> {
-    say(rt, b": refused")?;
-    figure(rt, r.number as usize)?;
-    say(rt, b" at")?;
-    figure(rt, r.place)
 }
 
 // Writes what mustering answers, and hands back ledger and book after it.
 fn told(rt: &impl Print, line: &[u8], m: Mustered) -> io::Result<Both> {
-    let said = m.said;
-    say(rt, line)?;
-    match said {
-        Judged::Accepted(i) => {
-            say(rt, b": place")?;
-            figure(rt, i)?;
-        }
-        Judged::Refused(r) => refused(rt, r)?,
+    rt.write_all(line)?;
+    match m.said {
+        Ok(i) => println!(rt; ": place {i}")?,
+        Err(r) => println!(rt; ": {r}")?,
     }
-    say(rt, b"\n")?;
     let ledger = m.ledger;
     let book = m.book;
     Ok(Both { ledger, book })
@@ -79,210 +49,146 @@ fn told(rt: &impl Print, line: &[u8], m: Mustered) -> io::Result<Both> {
 
 // Writes what closing answers, and hands back the ledger, and the book after it.
 fn closed(rt: &impl Print, line: &[u8], ledger: Ledger, c: Closed) -> io::Result<Both> {
-    say(rt, line)?;
+    rt.write_all(line)?;
     if c.held {
-        say(rt, b": held\n")?;
+        println!(rt; ": held")?;
     } else {
-        say(rt, b": none held\n")?;
+        println!(rt; ": none held")?;
     }
     let book = c.book;
     Ok(Both { ledger, book })
 }
 
-// The eight bytes of a signed number, as an unsigned one.
-fn bits(w: Whole) -> u64 {
-    let n = w.n as u64;
-    if w.below { ALL - n } else { n }
-}
-
-// The length of the muster message with this number, of which `line` gives all from the status frame on, from `from`
-// on; past its room where that is not understood or does not fit.
-fn built(line: &[u8], from: usize, w: Whole, message: &mut [u8]) -> usize {
+// The length of the muster message with this number, of which `text` gives all from the status frame on, from `from`
+// on; none where that is not understood or does not fit.
+fn built(text: &[u8], from: usize, number: i64, message: &mut [u8]) -> Option<usize> {
     let first = put(
         b"\x09\0\0\0\x05SIM01\x01\0\x01\x09\0\0\0\x01A\x01\0\x03\x09\0\0\0\x05MUS.1\x03",
         message,
         0,
     );
     let status = put(b"\0\0\0\0\0\0\0\0", message, first);
-    writing_puts::put_big(message, first, 8, bits(w));
-    if MOST < w.n {
-        return message.len() + 1;
-    }
-    added(line, from, message, status)
+    writing_puts::put_big(message, first, 8, number.cast_unsigned());
+    added(text, from, message, status)
 }
 
 // `muster N BYTES`: musters the message.
-fn muster(rt: &impl Print, line: &[u8], both: Both) -> io::Result<Both> {
+fn muster(text: &[u8], both: Both) -> Option<Mustered> {
     let mut message = [0u8; ROOM];
-    let w = signed(line, 7);
-    let n = built(line, w.at, w, &mut message);
-    if ROOM < n {
-        return lost(rt, line, both);
-    }
-    let ledger = both.ledger;
-    let book = both.book;
-    told(rt, line, ledger::muster(ledger, book, part(&message, 0, n)))
+    let w = signed(text, 0);
+    let n = built(text, w.at, w.value?, &mut message)?;
+    Some(ledger::muster(both.ledger, both.book, part(&message, 0, n)))
 }
 
 // `message BYTES`: musters them.
-fn raw(rt: &impl Print, line: &[u8], both: Both) -> io::Result<Both> {
+fn raw(text: &[u8], both: Both) -> Option<Mustered> {
     let mut message = [0u8; ROOM];
-    let n = added(line, 8, &mut message, 0);
-    if ROOM < n {
-        return lost(rt, line, both);
-    }
-    let ledger = both.ledger;
-    let book = both.book;
-    told(rt, line, ledger::muster(ledger, book, part(&message, 0, n)))
+    let n = added(text, 0, &mut message, 0)?;
+    Some(ledger::muster(both.ledger, both.book, part(&message, 0, n)))
 }
 
 // Eight frames, of which the type, the status and the number of fields stand at these places, and the sender and the
 // number where they do in the message of `muster`.
 fn frames(kind: usize, status: usize, count: usize) -> [Frame; 8] {
     let mut all = [Frame { place: 0, code: 0 }; 8];
-    all[2] = Frame { place: 13, code: 0 };
-    all[4] = Frame {
-        place: kind,
-        code: 0,
-    };
-    all[5] = Frame { place: 32, code: 0 };
-    all[6] = Frame {
-        place: status,
-        code: 0,
-    };
-    all[7] = Frame {
-        place: count,
-        code: 0,
-    };
+    all[2].place = 13;
+    all[4].place = kind;
+    all[5].place = 32;
+    all[6].place = status;
+    all[7].place = count;
     all
 }
 
 // `framed N A B C F BYTES`: musters the message by frames of which the type stands at A, the status at B and the number
 // of fields at C, with F fields.
-fn framed(rt: &impl Print, line: &[u8], both: Both) -> io::Result<Both> {
+fn framed(text: &[u8], both: Both) -> Option<Mustered> {
     let mut message = [0u8; ROOM];
-    let w = signed(line, 7);
-    let a = spaced(line, w.at);
-    let b = spaced(line, a.at);
-    let c = spaced(line, b.at);
-    let f = spaced(line, c.at);
-    let n = built(line, f.at, w, &mut message);
-    if ROOM < n {
-        return lost(rt, line, both);
-    }
-    let by = frames(a.value, b.value, c.value);
-    told(
-        rt,
-        line,
-        ledger::muster_framed(both.ledger, both.book, part(&message, 0, n), by, f.value),
-    )
+    let w = signed(text, 0);
+    let a = spaced(text, w.at);
+    let b = spaced(text, a.at);
+    let c = spaced(text, b.at);
+    let f = spaced(text, c.at);
+    let n = built(text, f.at, w.value?, &mut message)?;
+    let by = frames(a.or_largest(), b.or_largest(), c.or_largest());
+    let own = part(&message, 0, n);
+    Some(muster_framed(both.ledger, both.book, own, by, f.or_largest()))
 }
 
 // `close C BYTES`: closes the sender of type code C with these value bytes.
-fn close(rt: &impl Print, line: &[u8], both: Both) -> io::Result<Both> {
+fn close(text: &[u8], book: Book) -> Option<Closed> {
     let mut id = [0u8; ROOM];
-    let c = spaced(line, 5);
-    let n = added(line, c.at, &mut id, 0);
-    if ROOM < n {
-        return lost(rt, line, both);
-    }
-    let ledger = both.ledger;
-    let book = both.book;
-    closed(
-        rt,
-        line,
-        ledger,
-        senders::close(book, c.value, part(&id, 0, n)),
-    )
+    let c = number(text, 0);
+    let n = added(text, c.at, &mut id, 0)?;
+    Some(senders::close(book, c.or_largest(), part(&id, 0, n)))
 }
 
-// `deck D N`: N heads are on deck D.
-fn deck(rt: &impl Print, line: &[u8], both: Both) -> io::Result<Both> {
-    let d = spaced(line, 4);
-    let n = spaced(line, d.at);
+// `deck D N`: the ledger and the book with N heads on deck D.
+fn deck(text: &[u8], both: Both) -> Option<Both> {
+    let d = number(text, 0);
+    let n = spaced(text, d.at);
     let mut heads = both.ledger.heads;
-    let i = d.value;
-    if i < DECKS {
-        if n.value < 65536 {
-            heads[i] = n.value as u16;
-            return Ok(Both {
-                ledger: Ledger { heads },
-                book: both.book,
-            });
-        }
-    }
-    lost(rt, line, both)
+    *heads.get_mut(d.value?)? = u16::try_from(n.value?).ok()?;
+    let book = both.book;
+    let ledger = Ledger { heads };
+    Some(Both { ledger, book })
 }
 
-// Writes the heads on a deck.
-fn shown(rt: &impl Print, n: u16) -> io::Result<()> {
-    figure(rt, n as usize)
+// `recording BYTES`: what reckoning them comes to.
+fn recording(text: &[u8]) -> Option<Reckoned> {
+    let mut bytes = [0u8; RECORDING];
+    let n = added(text, 0, &mut bytes, 0)?;
+    Some(reckon(part(&bytes, 0, n)))
 }
 
 // `decks`: writes how many heads are on each deck.
 fn listing(rt: &impl Print, ledger: &Ledger) -> io::Result<()> {
-    say(rt, b"decks")?;
+    print!(rt; "decks")?;
     for n in ledger.heads {
-        shown(rt, n)?;
+        print!(rt; " {n}")?;
     }
-    say(rt, b"\n")
+    println!(rt)
 }
 
 // Writes what a recording comes to: the messages applied and refused, or the refusal; and the heads on each deck.
 fn reckoned(rt: &impl Print, r: Reckoned) -> io::Result<()> {
-    let said = r.said;
-    say(rt, b"recording")?;
-    match said {
-        Judged::Accepted(n) => {
-            say(rt, b": applied")?;
-            figure(rt, n)?;
-            say(rt, b" refused")?;
-            figure(rt, r.refused)?;
-        }
-        Judged::Refused(f) => refused(rt, f)?,
+    match r.said {
+        Ok(n) => println!(rt; "recording: applied {n} refused {}", r.refused)?,
+        Err(f) => println!(rt; "recording: {f}")?,
     }
-    say(rt, b"\n")?;
     listing(rt, &r.ledger)
 }
 
-// `recording BYTES`: reckons them; ledger and book stay as they are.
-fn recording(rt: &impl Print, line: &[u8], both: Both) -> io::Result<Both> {
-    let mut bytes = [0u8; RECORDING];
-    let n = added(line, 10, &mut bytes, 0);
-    if RECORDING < n {
-        return lost(rt, line, both);
+// What a line that musters answers; none where it is not understood.
+fn mustered(line: &[u8], both: Both) -> Option<Mustered> {
+    if let Some(text) = line.strip_prefix(b"muster ") {
+        return muster(text, both);
     }
-    reckoned(rt, reckon(part(&bytes, 0, n)))?;
-    Ok(both)
+    if let Some(text) = line.strip_prefix(b"message ") {
+        return raw(text, both);
+    }
+    framed(line.strip_prefix(b"framed ")?, both)
 }
 
-// Whether `line` says nothing: it is empty or begins with #.
-fn comment(line: &[u8]) -> bool {
-    if line.len() == 0 {
-        return true;
-    }
-    line[0] == b'#'
-}
-
-// Ledger and book after a line that calls them.
+// Ledger and book after a line that calls them. A recording leaves them as they are.
 fn called(rt: &impl Print, line: &[u8], both: Both) -> io::Result<Both> {
-    if starts(line, b"muster ") {
-        return muster(rt, line, both);
+    if let Some(m) = mustered(line, both) {
+        return told(rt, line, m);
     }
-    if starts(line, b"message ") {
-        return raw(rt, line, both);
+    if let Some(text) = line.strip_prefix(b"close ")
+        && let Some(c) = close(text, both.book)
+    {
+        return closed(rt, line, both.ledger, c);
     }
-    if starts(line, b"framed ") {
-        return framed(rt, line, both);
+    if let Some(text) = line.strip_prefix(b"deck ")
+        && let Some(after) = deck(text, both)
+    {
+        return Ok(after);
     }
-    if starts(line, b"close ") {
-        return close(rt, line, both);
-    }
-    if starts(line, b"deck ") {
-        return deck(rt, line, both);
-    }
-    if starts(line, b"recording ") {
-        return recording(rt, line, both);
+    if let Some(text) = line.strip_prefix(b"recording ")
+        && let Some(r) = recording(text)
+    {
+        reckoned(rt, r)?;
+        return Ok(both);
     }
     lost(rt, line, both)
 }
@@ -294,34 +200,29 @@ fn fresh() -> Both {
     Both { ledger, book }
 }
 
-// Ledger and book after a line.
+// Ledger and book after a line: one that is empty or begins with # says nothing.
 fn turn(rt: &impl Print, line: &[u8], both: Both) -> io::Result<Both> {
-    if comment(line) {
-        return Ok(both);
+    match line {
+        [] | [b'#', ..] => Ok(both),
+        [b'=', b' ', text @ ..] => {
+            rt.write_all(text)?;
+            println!(rt)?;
+            Ok(both)
+        }
+        b"empty" => Ok(fresh()),
+        b"decks" => {
+            listing(rt, &both.ledger)?;
+            Ok(both)
+        }
+        _ => called(rt, line, both),
     }
-    if starts(line, b"= ") {
-        say(rt, part(line, 2, line.len()))?;
-        say(rt, b"\n")?;
-        return Ok(both);
-    }
-    if check::same(line, b"empty") {
-        return Ok(fresh());
-    }
-    if check::same(line, b"decks") {
-        listing(rt, &both.ledger)?;
-        return Ok(both);
-    }
-    called(rt, line, both)
 }
 
 // Runs every line of `text`, from the empty ledger and the empty book on.
 fn all(rt: &impl Print, text: &[u8]) -> io::Result<()> {
     let mut both = fresh();
-    let mut at = 0;
-    while at < text.len() {
-        let to = find(text, at, b'\n');
-        both = turn(rt, part(text, at, to), both)?;
-        at = to + 1;
+    for line in text.split(|b| *b == b'\n') {
+        both = turn(rt, line, both)?;
     }
     Ok(())
 }

@@ -2,11 +2,12 @@
 // answered with.
 #![tactic(auto)]
 
-ghost use Rattle.std.specs.Prelude.{◌≡◌, false, ◌+◌, ◌≤◌, min, length, IfOk};
+ghost use Rattle.std.specs.Prelude.{◌≡◌, ◌+◌, ◌≤◌, min, length, IfOk, None};
 
+use programs_pieces::put;
 use sim0mq::{FIELDS, ROW};
 use std::io;
-use vectors_lines::{ROOM, find, last, part, starts};
+use vectors_lines::{ROOM, find, last, part};
 
 // How many numbers a table has at most, and has where a case does not say.
 const NUMBERS: usize = FIELDS * ROW;
@@ -21,19 +22,23 @@ pub struct Run {
     // How many cases have been run, and how many of them, and lines, were wrong.
     pub cases: usize,
     pub wrong: usize,
-    // Whether a case has begun, and where its first line stands in the text.
-    pub begun: bool,
-    pub name_from: usize,
-    pub name_to: usize,
+    // The case that has begun and has not ended.
+    pub begun: Option<Case>,
+}
+
+// A case that is being read.
+#[derive(Clone, Copy)]
+pub struct Case {
+    // Where its first line stands in the text.
+    pub from: usize,
+    pub to: usize,
     // The lengths of its message and of the text that it expects.
     pub length: usize,
     pub expects: usize,
-    // Whether it lends a table, and how many numbers that has.
-    pub lends: bool,
-    pub room: usize,
-    // Whether it asks for a field, and for which.
-    pub asks: bool,
-    pub field: usize,
+    // How many numbers the table has that it lends.
+    pub lends: Option<usize>,
+    // The field that it asks for.
+    pub asks: Option<usize>,
     // Whether its message is blanked, whether it writes, and how many bytes the output has.
     pub blanks: bool,
     pub writes: bool,
@@ -42,7 +47,7 @@ pub struct Run {
 
 // Nothing run yet.
 pub fn start() -> Run
-    ensures { (result.cases ≡ 0) × (result.wrong ≡ 0) × (result.begun ≡ false) }
+    ensures { (result.cases ≡ 0) × (result.wrong ≡ 0) × (result.begun ≡ None) }
 {
     Run {
         line: 0,
@@ -50,18 +55,7 @@ pub fn start() -> Run
         to: 0,
         cases: 0,
         wrong: 0,
-        begun: false,
-        name_from: 0,
-        name_to: 0,
-        length: 0,
-        expects: 0,
-        lends: true,
-        room: NUMBERS,
-        asks: false,
-        field: 0,
-        blanks: false,
-        writes: false,
-        output: ROOM,
+        begun: None,
     }
 }
 
@@ -69,21 +63,35 @@ pub fn start() -> Run
 pub fn next(n: usize) -> usize
     ensures { result ≡ min (n + 1) 18446744073709551615 }
 {
-    if n < usize::MAX { n + 1 } else { n }
+    n.saturating_add(1)
 }
 
 // The run after a line that is not understood, which it says.
 fn lost(rt: &impl Print, run: Run) -> io::Result<Run>
     ensures cases { IfOk result (λ r. r.cases ≡ run.cases) }
     ensures wrong { IfOk result (λ r. run.wrong ≤ r.wrong) }
+    ensures begun { IfOk result (λ r. r.begun ≡ run.begun) }
 {
     println!(rt; "line {}: not understood", run.line)?;
-    let mut after = run;
-    after.wrong = next(run.wrong);
-    Ok(after)
+    Ok(Run {
+        wrong: next(run.wrong),
+        ..run
+    })
 }
 
-// The run after its line, where that does not end a case: a comment, the beginning of a case, or a line of one.
+// The run with the case that has begun left as it is: a case that has no end is wrong.
+fn closed(rt: &impl Print, run: Run) -> io::Result<Run>
+    ensures cases { IfOk result (λ r. r.cases ≡ run.cases) }
+    ensures wrong { IfOk result (λ r. run.wrong ≤ r.wrong) }
+{
+    if run.begun.is_some() {
+        return lost(rt, run);
+    }
+    Ok(run)
+}
+
+// The run after its line, where that does not end a case: a comment, the beginning of a case, or a line of one. A case
+// that another follows before its end is wrong.
 pub fn turn(
     rt: &impl Print,
     line: &[u8],
@@ -94,270 +102,158 @@ pub fn turn(
     ensures cases { IfOk result (λ r. r.cases ≡ run.cases) }
     ensures wrong { IfOk result (λ r. run.wrong ≤ r.wrong) }
 {
-    if comment(line) {
+    if matches!(line, [] | [b'#', ..]) {
         return Ok(run);
     }
-    if starts(line, b"case ") {
-        return case(rt, run);
+    if line.starts_with(b"case ") {
+        let after = closed(rt, run)?;
+        return Ok(Run {
+            begun: Some(fresh(run.from, run.to)),
+            ..after
+        });
     }
-    if run.begun {
-        return deed(rt, line, run, message, expected);
-    }
-    lost(rt, run)
+    let Some(case) = run.begun else {
+        return lost(rt, run);
+    };
+    let Some(after) = deed(line, case, message, expected) else {
+        return lost(rt, run);
+    };
+    Ok(Run {
+        begun: Some(after),
+        ..run
+    })
 }
 
-// The run after a line of a case, by the line's first word.
-fn deed(
-    rt: &impl Print,
-    line: &[u8],
-    run: Run,
-    message: &mut [u8],
-    expected: &mut [u8],
-) -> io::Result<Run>
-    ensures cases { IfOk result (λ r. r.cases ≡ run.cases) }
-    ensures wrong { IfOk result (λ r. run.wrong ≤ r.wrong) }
-{
-    if starts(line, b"bytes ") {
-        return bytes(rt, line, run, message);
+// `case NAME`, a line that stands here: a case with no bytes and the whole table.
+fn fresh(from: usize, to: usize) -> Case {
+    Case {
+        from,
+        to,
+        length: 0,
+        expects: 0,
+        lends: Some(NUMBERS),
+        asks: None,
+        blanks: false,
+        writes: false,
+        output: ROOM,
     }
-    if starts(line, b"set ") {
-        return set(rt, line, run, message);
-    }
-    if starts(line, b"cut ") {
-        return cut(rt, line, run);
-    }
-    if starts(line, b"table ") {
-        return table(rt, line, run);
-    }
-    if check::same(line, b"no table") {
-        return Ok(no_table(run));
-    }
-    if starts(line, b"asks ") {
-        return Ok(asks(line, run));
-    }
-    if starts(line, b"blanks ") {
-        return blanks(rt, line, run);
-    }
-    if starts(line, b"gives ") {
-        return gives(rt, line, run, expected);
-    }
-    writing(rt, line, run)
 }
 
-// The run after a line of a case that writes, which is run when the case ends: a call of the writer, or what is said of
-// its state or output.
-fn writing(rt: &impl Print, line: &[u8], run: Run) -> io::Result<Run>
-    ensures cases { IfOk result (λ r. r.cases ≡ run.cases) }
-    ensures wrong { IfOk result (λ r. run.wrong ≤ r.wrong) }
-{
-    if starts(line, b"room ") {
-        return room(rt, line, run);
+// The case after a line of it, by the line's first word; none where it is not understood.
+fn deed(line: &[u8], case: Case, message: &mut [u8], expected: &mut [u8]) -> Option<Case> {
+    if let Some(tokens) = line.strip_prefix(b"bytes ") {
+        let length = vectors_tokens::added(tokens, 0, message, case.length)?;
+        return Some(Case { length, ..case });
+    }
+    if let Some(numbers) = line.strip_prefix(b"set ") {
+        return set(numbers, case, message);
+    }
+    if let Some(text) = line.strip_prefix(b"gives ") {
+        return gives(text, case, expected);
+    }
+    if line == b"no table".as_slice() {
+        return Some(Case {
+            lends: None,
+            ..case
+        });
+    }
+    numbered(line, case)
+}
+
+// The case after a line of it that is a word and a number, or is run when the case ends: a call of the writer, or what
+// is said of its state or output.
+fn numbered(line: &[u8], case: Case) -> Option<Case> {
+    if let Some(n) = line.strip_prefix(b"cut ") {
+        let length = up_to(n, case.length)?;
+        return Some(Case { length, ..case });
+    }
+    if let Some(n) = line.strip_prefix(b"table ") {
+        let room = up_to(n, NUMBERS)?;
+        let lends = case.lends.map(|_| room);
+        return Some(Case { lends, ..case });
+    }
+    if let Some(k) = line.strip_prefix(b"asks ") {
+        let asks = Some(last(k, 0).unwrap_or(usize::MAX));
+        return Some(Case { asks, ..case });
+    }
+    if let Some(n) = line.strip_prefix(b"blanks ") {
+        let output = up_to(n, ROOM)?;
+        return Some(Case {
+            blanks: true,
+            output,
+            ..case
+        });
+    }
+    if let Some(n) = line.strip_prefix(b"room ") {
+        let output = up_to(n, ROOM)?;
+        return Some(Case { output, ..case });
     }
     if writes(line) {
-        let mut after = run;
-        after.writes = true;
-        return Ok(after);
+        return Some(Case {
+            writes: true,
+            ..case
+        });
     }
-    lost(rt, run)
+    None
+}
+
+// The number that `text` is, if it is at most `most`.
+fn up_to(text: &[u8], most: usize) -> Option<usize> {
+    last(text, 0).filter(|n| *n <= most)
 }
 
 // Whether a case with this line writes: the line is a call of the writer, or says what its state is or its output
 // holds.
 fn writes(line: &[u8]) -> bool {
-    if starts(line, b"opens ") {
-        return true;
-    }
-    if starts(line, b"adds") {
-        return true;
-    }
-    if starts(line, b"state ") {
-        return true;
-    }
-    if starts(line, b"holds ") {
-        return true;
-    }
-    check::same(line, b"closes")
-}
-
-// Whether `line` says nothing: it is blank or begins with #.
-fn comment(line: &[u8]) -> bool {
-    if line.len() == 0 {
-        return true;
-    }
-    line[0] == b'#'
-}
-
-// `case NAME`: a case begins, with no bytes and the whole table. The case before it, if it has no end, is wrong.
-fn case(rt: &impl Print, run: Run) -> io::Result<Run>
-    ensures cases { IfOk result (λ r. r.cases ≡ run.cases) }
-    ensures wrong { IfOk result (λ r. run.wrong ≤ r.wrong) }
-{
-    let mut after = run;
-    if run.begun {
-        after = lost(rt, run)?;
-    }
-    after.begun = true;
-    after.name_from = run.from;
-    after.name_to = run.to;
-    after.length = 0;
-    after.expects = 0;
-    after.lends = true;
-    after.room = NUMBERS;
-    after.asks = false;
-    after.blanks = false;
-    after.writes = false;
-    after.output = ROOM;
-    Ok(after)
-}
-
-// `bytes TOKENS`: bytes are added to the message.
-fn bytes(rt: &impl Print, line: &[u8], run: Run, message: &mut [u8]) -> io::Result<Run>
-    ensures cases { IfOk result (λ r. r.cases ≡ run.cases) }
-    ensures wrong { IfOk result (λ r. run.wrong ≤ r.wrong) }
-{
-    let length = vectors_tokens::added(line, 6, message, run.length);
-    if message.len() < length {
-        return lost(rt, run);
-    }
-    let mut after = run;
-    after.length = length;
-    Ok(after)
+    line == b"closes".as_slice()
+        || line.starts_with(b"opens ")
+        || line.starts_with(b"adds")
+        || line.starts_with(b"state ")
+        || line.starts_with(b"holds ")
 }
 
 // `set I B`: byte I of the message is B.
-fn set(rt: &impl Print, line: &[u8], run: Run, message: &mut [u8]) -> io::Result<Run>
-    ensures cases { IfOk result (λ r. r.cases ≡ run.cases) }
-    ensures wrong { IfOk result (λ r. run.wrong ≤ r.wrong) }
-{
-    let space = find(line, 4, b' ');
-    let i = last(part(line, 0, space), 4);
-    let b = last(line, space + 1);
-    if b < 256 {
-        if i < run.length {
-            if i < message.len() {
-                message[i] = b as u8;
-                return Ok(run);
-            }
-        }
+fn set(numbers: &[u8], case: Case, message: &mut [u8]) -> Option<Case> {
+    let space = find(numbers, 0, b' ');
+    let i = last(part(numbers, 0, space), 0)?;
+    let b = last(numbers, space.saturating_add(1))?;
+    if case.length <= i {
+        return None;
     }
-    lost(rt, run)
-}
-
-// `cut N`: the message's first N bytes are kept.
-fn cut(rt: &impl Print, line: &[u8], run: Run) -> io::Result<Run>
-    ensures cases { IfOk result (λ r. r.cases ≡ run.cases) }
-    ensures wrong { IfOk result (λ r. run.wrong ≤ r.wrong) }
-{
-    let n = last(line, 4);
-    if run.length < n {
-        return lost(rt, run);
-    }
-    let mut after = run;
-    after.length = n;
-    Ok(after)
-}
-
-// `table N`: a table of N numbers is lent.
-fn table(rt: &impl Print, line: &[u8], run: Run) -> io::Result<Run>
-    ensures cases { IfOk result (λ r. r.cases ≡ run.cases) }
-    ensures wrong { IfOk result (λ r. run.wrong ≤ r.wrong) }
-{
-    let n = last(line, 6);
-    if NUMBERS < n {
-        return lost(rt, run);
-    }
-    let mut after = run;
-    after.room = n;
-    Ok(after)
-}
-
-// `no table`: no table is lent.
-fn no_table(run: Run) -> Run
-    ensures { (result.cases ≡ run.cases) × (run.wrong ≤ result.wrong) }
-{
-    let mut after = run;
-    after.lends = false;
-    after
-}
-
-// `asks K`: field K is asked for.
-fn asks(line: &[u8], run: Run) -> Run
-    ensures { (result.cases ≡ run.cases) × (run.wrong ≤ result.wrong) }
-{
-    let mut after = run;
-    after.asks = true;
-    after.field = last(line, 5);
-    after
-}
-
-// `blanks N`: the message is blanked into an output of N bytes.
-fn blanks(rt: &impl Print, line: &[u8], run: Run) -> io::Result<Run>
-    ensures cases { IfOk result (λ r. r.cases ≡ run.cases) }
-    ensures wrong { IfOk result (λ r. run.wrong ≤ r.wrong) }
-{
-    let n = last(line, 7);
-    if ROOM < n {
-        return lost(rt, run);
-    }
-    let mut after = run;
-    after.blanks = true;
-    after.output = n;
-    Ok(after)
-}
-
-// `room N`: the output that a message is written in has N bytes.
-fn room(rt: &impl Print, line: &[u8], run: Run) -> io::Result<Run>
-    ensures cases { IfOk result (λ r. r.cases ≡ run.cases) }
-    ensures wrong { IfOk result (λ r. run.wrong ≤ r.wrong) }
-{
-    let n = last(line, 5);
-    if ROOM < n {
-        return lost(rt, run);
-    }
-    let mut after = run;
-    after.output = n;
-    Ok(after)
+    *message.get_mut(i)? = u8::try_from(b).ok()?;
+    Some(case)
 }
 
 // `gives TEXT`: one more line of the text that is expected.
-fn gives(rt: &impl Print, line: &[u8], run: Run, expected: &mut [u8]) -> io::Result<Run>
-    ensures cases { IfOk result (λ r. r.cases ≡ run.cases) }
-    ensures wrong { IfOk result (λ r. run.wrong ≤ r.wrong) }
-{
-    let mut at = programs_pieces::put(part(line, 6, line.len()), expected, run.expects);
-    at = programs_pieces::put(b"\n", expected, at);
-    if expected.len() < at {
-        return lost(rt, run);
+fn gives(text: &[u8], case: Case, expected: &mut [u8]) -> Option<Case> {
+    let mut expects = put(text, expected, case.expects);
+    expects = put(b"\n", expected, expects);
+    if expected.len() < expects {
+        return None;
     }
-    let mut after = run;
-    after.expects = at;
-    Ok(after)
+    Some(Case { expects, ..case })
 }
 
 // The length of the listing of `message`, put at the front of `out`: its first line alone where the case lends no
 // table.
-pub fn listed(run: Run, message: &[u8], out: &mut [u8]) -> usize
+pub fn listed(case: Case, message: &[u8], out: &mut [u8]) -> usize
     ensures { result ≤ length out.new }
 {
-    if !run.lends {
-        let judged = reading::judge(message);
-        let said = judged.said;
-        return programs_listing::first_line(said, out);
+    match case.lends {
+        None => programs_listing::first_line(reading::judge(message).said, out),
+        Some(room) if room <= NUMBERS => {
+            let mut table = [0u32; NUMBERS];
+            tabled(message, &mut table[..room], out)
+        }
+        Some(_) => 0,
     }
-    let mut table = [0u32; NUMBERS];
-    let room = run.room;
-    if room <= NUMBERS {
-        return tabled(message, &mut table[0..room], out);
-    }
-    0
 }
 
 // The length of the listing of `message`, read with this table.
 fn tabled(message: &[u8], table: &mut [u32], out: &mut [u8]) -> usize
     ensures { result ≤ length out.new }
 {
-    let read = reading::read(message, table);
-    let said = read.said;
+    let said = reading::read(message, table).said;
     programs_listing::listing(said, table, out)
 }
 
@@ -370,25 +266,30 @@ pub fn ended(
     given: &[u8],
     expected: &[u8],
 ) -> io::Result<Run>
-    ensures begun { IfOk result (λ r. r.begun ≡ false) }
+    ensures begun { IfOk result (λ r. r.begun ≡ None) }
     ensures cases { IfOk result (λ r. r.cases ≡ min (run.cases + 1) 18446744073709551615) }
     ensures wrong { IfOk result (λ r. run.wrong ≤ r.wrong) }
 {
-    let mut after = run;
-    after.begun = false;
-    after.cases = next(run.cases);
-    if 0 < given.len() {
-        if check::same(given, part(expected, 0, run.expects)) {
-            return Ok(after);
-        }
+    let after = Run {
+        begun: None,
+        cases: next(run.cases),
+        ..run
+    };
+    let Some(case) = run.begun else {
+        return lost(rt, after);
+    };
+    if !given.is_empty() && given == part(expected, 0, case.expects) {
+        return Ok(after);
     }
-    let line = part(text, run.name_from, run.name_to);
+    let line = part(text, case.from, case.to);
     rt.write_all(b"wrong: ")?;
     rt.write_all(part(line, 5, line.len()))?;
     rt.write_all(b"\n")?;
     rt.write_all(given)?;
-    after.wrong = next(run.wrong);
-    Ok(after)
+    Ok(Run {
+        wrong: next(run.wrong),
+        ..after
+    })
 }
 
 // Prints how many cases there are, and how many wrong ones, which it answers: a case that has no end is wrong too.
@@ -398,15 +299,4 @@ pub fn report(rt: &impl Print, run: Run) -> io::Result<usize>
     let after = closed(rt, run)?;
     println!(rt; "{} cases, {} wrong", after.cases, after.wrong)?;
     Ok(after.wrong)
-}
-
-// The run after its last line: a case that has no end is wrong.
-fn closed(rt: &impl Print, run: Run) -> io::Result<Run>
-    ensures cases { IfOk result (λ r. r.cases ≡ run.cases) }
-    ensures wrong { IfOk result (λ r. run.wrong ≤ r.wrong) }
-{
-    if run.begun {
-        return lost(rt, run);
-    }
-    Ok(run)
 }

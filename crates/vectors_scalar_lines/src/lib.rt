@@ -2,233 +2,133 @@
 // double are told by their bits.
 #![tactic(auto)]
 
-ghost use Rattle.std.specs.Prelude.{◌≡◌, ◌<◌, length};
-ghost use Rattle.vectors_scalar_lines.specs.declared.Told.TheVariants.{Lost};
+ghost use Rattle.std.specs.Prelude.{◌≡◌, ◌<◌, length, None};
 
 use sim0mq_kinds::{DOUBLE_INFINITY, DOUBLE_SIGN, FLOAT_INFINITY, FLOAT_SIGN, Mark, Scalar};
-use vectors_lines::wholes::{byte_of, int_of, long_of, short_of, signed};
-use vectors_lines::{Figure, NONE, last, number, part, starts};
+use vectors_lines::wholes::signed;
+use vectors_lines::{last, number, part};
 
-// A scalar, or that the line is not understood.
-#[derive(Clone, Copy)]
-pub enum Told {
-    Is(Scalar),
-    Lost,
-}
-
-// A mark; `known` where it is understood.
-#[derive(Clone, Copy)]
-struct Marked {
-    known: bool,
-    mark: Mark,
-}
-
-// No mark.
-const UNKNOWN: Marked = Marked {
-    known: false,
-    mark: Mark {
-        unit: 0,
-        currency: 0,
-        display: 0,
-    },
-};
-
-// The scalar that `text` tells; the shortest text that tells one has five bytes.
-pub fn scalar(text: &[u8]) -> Told
-    ensures { length text.now < 5 → result ≡ Lost }
+// The scalar that `text` tells, none where it is not understood; the shortest text that tells one has five bytes.
+pub fn scalar(text: &[u8]) -> Option<Scalar>
+    ensures { length text.now < 5 → result ≡ None }
 {
     if text.len() < 5 {
-        return Told::Lost;
+        return None;
     }
     by_word(text)
 }
 
 // The scalar that `text` tells, by its first word.
-fn by_word(text: &[u8]) -> Told {
-    if starts(text, b"byte ") {
-        return integer(text, 5, 127);
+fn by_word(text: &[u8]) -> Option<Scalar> {
+    if let Some(rest) = text.strip_prefix(b"byte ") {
+        return i8::try_from(integer(rest)?).ok().map(Scalar::Byte);
     }
-    if starts(text, b"short ") {
-        return integer(text, 6, 32767);
+    if let Some(rest) = text.strip_prefix(b"short ") {
+        return i16::try_from(integer(rest)?).ok().map(Scalar::Short);
     }
-    if starts(text, b"int ") {
-        return integer(text, 4, 2147483647);
+    if let Some(rest) = text.strip_prefix(b"int ") {
+        return i32::try_from(integer(rest)?).ok().map(Scalar::Int);
     }
-    if starts(text, b"long ") {
-        return integer(text, 5, 9223372036854775807);
+    if let Some(rest) = text.strip_prefix(b"long ") {
+        return integer(rest).map(Scalar::Long);
     }
-    if starts(text, b"float ") {
-        return float(text);
+    if let Some(rest) = text.strip_prefix(b"float ") {
+        return float(rest);
     }
-    if starts(text, b"double ") {
-        return double(text);
+    if let Some(rest) = text.strip_prefix(b"double ") {
+        return double(rest);
     }
     further(text)
 }
 
 // The Boolean, the character or the "not a number" that `text` tells.
-fn further(text: &[u8]) -> Told {
-    if starts(text, b"boolean ") {
-        return boolean(last(text, 8));
+fn further(text: &[u8]) -> Option<Scalar> {
+    if let Some(rest) = text.strip_prefix(b"boolean ") {
+        return boolean(last(rest, 0)?);
     }
-    if starts(text, b"char8 ") {
-        return char8(last(text, 6));
+    if let Some(rest) = text.strip_prefix(b"char8 ") {
+        return u8::try_from(last(rest, 0)?).ok().map(Scalar::Char8);
     }
-    if starts(text, b"char16 ") {
-        return char16(last(text, 7));
+    if let Some(rest) = text.strip_prefix(b"char16 ") {
+        return u16::try_from(last(rest, 0)?).ok().map(Scalar::Char16);
     }
-    if starts(text, b"not a number ") {
-        return not_number(last(text, 13));
-    }
-    Told::Lost
+    let rest = text.strip_prefix(b"not a number ")?;
+    u8::try_from(last(rest, 0)?).ok().map(Scalar::NotNumber)
 }
 
-// The signed number that stands in `text` at `from`, of the kind whose largest number is `most`.
-fn integer(text: &[u8], from: usize, most: usize) -> Told {
-    let w = signed(text, from);
-    if w.at != text.len() {
-        return Told::Lost;
-    }
-    if most < w.n {
-        return Told::Lost;
-    }
-    if most == 127 {
-        return Told::Is(Scalar::Byte(byte_of(w.below, w.n)));
-    }
-    if most == 32767 {
-        return Told::Is(Scalar::Short(short_of(w.below, w.n)));
-    }
-    if most == 2147483647 {
-        return Told::Is(Scalar::Int(int_of(w.below, w.n)));
-    }
-    Told::Is(Scalar::Long(long_of(w.below, w.n)))
+// The signed number that `text` is.
+fn integer(text: &[u8]) -> Option<i64> {
+    let w = signed(text, 0);
+    if w.at == text.len() { w.value } else { None }
 }
 
 // The Boolean of this number.
-fn boolean(n: usize) -> Told {
-    if 1 < n {
-        return Told::Lost;
+fn boolean(n: usize) -> Option<Scalar> {
+    match n {
+        0 => Some(Scalar::Boolean(false)),
+        1 => Some(Scalar::Boolean(true)),
+        _ => None,
     }
-    Told::Is(Scalar::Boolean(n == 1))
-}
-
-// The character of 8 bits of this number.
-fn char8(n: usize) -> Told {
-    if 255 < n {
-        return Told::Lost;
-    }
-    Told::Is(Scalar::Char8(n as u8))
-}
-
-// The character of 16 bits of this number.
-fn char16(n: usize) -> Told {
-    if 65535 < n {
-        return Told::Lost;
-    }
-    Told::Is(Scalar::Char16(n as u16))
-}
-
-// The "not a number" of this code.
-fn not_number(code: usize) -> Told {
-    if 255 < code {
-        return Told::Lost;
-    }
-    Told::Is(Scalar::NotNumber(code as u8))
 }
 
 // The float that `text` tells, with its mark where it has one.
-fn float(text: &[u8]) -> Told {
-    let n = number(text, 6);
-    if 4294967295 < n.value {
-        return Told::Lost;
+fn float(text: &[u8]) -> Option<Scalar> {
+    let n = number(text, 0);
+    let x = float_of(u32::try_from(n.value?).ok()?);
+    match part(text, n.at, text.len()) {
+        [] => Some(Scalar::Float(x)),
+        rest => mark(rest).map(|m| Scalar::FloatUnit(x, m)),
     }
-    let x = float_of(n.value as u32);
-    if n.at == text.len() {
-        return Told::Is(Scalar::Float(x));
-    }
-    let marked = mark(part(text, n.at, text.len()));
-    let unit = marked.mark;
-    if marked.known {
-        return Told::Is(Scalar::FloatUnit(x, unit));
-    }
-    Told::Lost
 }
 
 // The double that `text` tells, with its mark where it has one.
-fn double(text: &[u8]) -> Told {
-    let n = number(text, 7);
-    if n.value == NONE {
-        return Told::Lost;
+fn double(text: &[u8]) -> Option<Scalar> {
+    let n = number(text, 0);
+    let x = double_of(n.value? as u64);
+    match part(text, n.at, text.len()) {
+        [] => Some(Scalar::Double(x)),
+        rest => mark(rest).map(|m| Scalar::DoubleUnit(x, m)),
     }
-    let x = double_of(n.value as u64);
-    if n.at == text.len() {
-        return Told::Is(Scalar::Double(x));
-    }
-    let marked = mark(part(text, n.at, text.len()));
-    let unit = marked.mark;
-    if marked.known {
-        return Told::Is(Scalar::DoubleUnit(x, unit));
-    }
-    Told::Lost
 }
 
 // The float of these bits, NaNs too.
+#[tactic(auto, using(sim0mq_kinds::proofs::Nan::nan_tests))]
 fn float_of(bits: u32) -> f32 {
     if FLOAT_INFINITY < bits % FLOAT_SIGN {
-        let zero: f32 = 0.0;
-        return zero / zero;
+        f32::NAN
+    } else {
+        f32::from_bits(bits)
     }
-    f32::from_bits(bits)
 }
 
 // The double of these bits, NaNs too.
+#[tactic(auto, using(sim0mq_kinds::proofs::Nan::nan_tests))]
 fn double_of(bits: u64) -> f64 {
     if DOUBLE_INFINITY < bits % DOUBLE_SIGN {
-        let zero: f64 = 0.0;
-        return zero / zero;
+        f64::NAN
+    } else {
+        f64::from_bits(bits)
     }
-    f64::from_bits(bits)
 }
 
 // The mark that `text` tells: ` unit U currency C display D`.
-fn mark(text: &[u8]) -> Marked {
-    let unit = worded(text, b" unit ");
-    let after_unit = part(text, unit.at, text.len());
-    let currency = worded(after_unit, b" currency ");
-    let after_currency = part(after_unit, currency.at, after_unit.len());
-    let display = worded(after_currency, b" display ");
-    let whole = display.at == after_currency.len();
-    mark_of(whole, unit.value, currency.value, display.value)
+fn mark(text: &[u8]) -> Option<Mark> {
+    let (unit, after) = worded(text, b" unit ")?;
+    let (currency, after) = worded(after, b" currency ")?;
+    let (display, after) = worded(after, b" display ")?;
+    if !after.is_empty() {
+        return None;
+    }
+    Some(Mark {
+        unit: u8::try_from(unit).ok()?,
+        currency: u16::try_from(currency).ok()?,
+        display: u8::try_from(display).ok()?,
+    })
 }
 
-// The number that stands in `text` after this word at its front.
-fn worded(text: &[u8], word: &[u8]) -> Figure {
-    if starts(text, word) {
-        return number(text, word.len());
-    }
-    Figure { value: NONE, at: 0 }
-}
-
-// The mark of these numbers; not understood where one is too large, or the text is not read to its end.
-fn mark_of(whole: bool, unit: usize, currency: usize, display: usize) -> Marked {
-    if !whole {
-        return UNKNOWN;
-    }
-    if 255 < unit {
-        return UNKNOWN;
-    }
-    if 65535 < currency {
-        return UNKNOWN;
-    }
-    if 255 < display {
-        return UNKNOWN;
-    }
-    Marked {
-        known: true,
-        mark: Mark {
-            unit: unit as u8,
-            currency: currency as u16,
-            display: display as u8,
-        },
-    }
+// The number that stands in `text` after this word at its front, and the text after it.
+fn worded<'a>(text: &'a [u8], word: &[u8]) -> Option<(usize, &'a [u8])> {
+    let after = text.strip_prefix(word)?;
+    let n = number(after, 0);
+    Some((n.value?, part(after, n.at, after.len())))
 }

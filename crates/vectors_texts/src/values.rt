@@ -2,11 +2,9 @@
 // field's view.
 ghost use Rattle.std.specs.Prelude.{◌≤◌, length};
 
-use asking_scalars::answer::Value;
 use programs_pieces::{number, put};
-use reading::Reading;
+use sim0mq::Refusal;
 use sim0mq_kinds::{Mark, Scalar};
-use sim0mq_numbers::wide;
 use vectors_lines::within;
 
 // The length of what asking `message` for field k answers, put at the front of `out`; 0 where it does not fit.
@@ -19,10 +17,10 @@ pub fn answer(message: &[u8], k: usize, out: &mut [u8]) -> usize
 }
 
 // The place after the line of a value, or of a refusal.
-fn value(value: Value, out: &mut [u8]) -> usize {
+fn value(value: Result<Scalar, Refusal>, out: &mut [u8]) -> usize {
     match value {
-        Value::Refused(refusal) => programs_listing::first_line(Reading::Refused(refusal), out),
-        Value::Is(scalar) => {
+        Err(refusal) => programs_listing::first_line(Err(refusal), out),
+        Ok(scalar) => {
             let at = text(scalar, out);
             put(b"\n", out, at)
         }
@@ -34,7 +32,7 @@ fn view(bytes: &[u8], out: &mut [u8], from: usize) -> usize {
     let mut at = put(b"view", out, from);
     for b in bytes {
         at = put(b" ", out, at);
-        at = number(wide(*b) as u64, out, at);
+        at = number(u64::from(*b), out, at);
     }
     put(b"\n", out, at)
 }
@@ -42,15 +40,15 @@ fn view(bytes: &[u8], out: &mut [u8], from: usize) -> usize {
 // The place after a scalar: its kind and its number; a float and a double are told by the number that their bits write.
 fn text(scalar: Scalar, out: &mut [u8]) -> usize {
     match scalar {
-        Scalar::Byte(x) => signed(b"byte ", x as i64, out),
-        Scalar::Short(x) => signed(b"short ", x as i64, out),
-        Scalar::Int(x) => signed(b"int ", x as i64, out),
+        Scalar::Byte(x) => signed(b"byte ", i64::from(x), out),
+        Scalar::Short(x) => signed(b"short ", i64::from(x), out),
+        Scalar::Int(x) => signed(b"int ", i64::from(x), out),
         Scalar::Long(x) => signed(b"long ", x, out),
         Scalar::Float(x) => float(x, out),
         Scalar::Double(x) => double(x, out),
-        Scalar::Boolean(x) => unsigned(b"boolean ", x as u64, out),
-        Scalar::Char8(x) => unsigned(b"char8 ", x as u64, out),
-        Scalar::Char16(x) => unsigned(b"char16 ", x as u64, out),
+        Scalar::Boolean(x) => unsigned(b"boolean ", u64::from(x), out),
+        Scalar::Char8(x) => unsigned(b"char8 ", u64::from(x), out),
+        Scalar::Char16(x) => unsigned(b"char16 ", u64::from(x), out),
         Scalar::FloatUnit(x, unit) => {
             let at = float(x, out);
             mark(unit, out, at)
@@ -59,7 +57,7 @@ fn text(scalar: Scalar, out: &mut [u8]) -> usize {
             let at = double(x, out);
             mark(unit, out, at)
         }
-        Scalar::NotNumber(code) => unsigned(b"not a number ", code as u64, out),
+        Scalar::NotNumber(code) => unsigned(b"not a number ", u64::from(code), out),
     }
 }
 
@@ -71,38 +69,35 @@ fn unsigned(word: &[u8], n: u64, out: &mut [u8]) -> usize {
 
 // The place after a word and a signed number.
 fn signed(word: &[u8], n: i64, out: &mut [u8]) -> usize {
-    let at = put(word, out, 0);
-    if 0 <= n {
-        return number(n as u64, out, at);
+    let mut at = put(word, out, 0);
+    if n < 0 {
+        at = put(b"-", out, at);
     }
-    let below = -1 - n;
-    let sign = put(b"-", out, at);
-    number(below as u64 + 1, out, sign)
+    number(n.unsigned_abs(), out, at)
 }
 
 // The place after a float, by its bits.
 fn float(x: f32, out: &mut [u8]) -> usize {
-    if x != x {
+    if x.is_nan() {
         return put(b"float, and not a number", out, 0);
     }
-    let bits = f32::to_bits(x);
-    unsigned(b"float ", bits as u64, out)
+    unsigned(b"float ", u64::from(x.to_bits()), out)
 }
 
 // The place after a double, by its bits.
 fn double(x: f64, out: &mut [u8]) -> usize {
-    if x != x {
+    if x.is_nan() {
         return put(b"double, and not a number", out, 0);
     }
-    unsigned(b"double ", f64::to_bits(x), out)
+    unsigned(b"double ", x.to_bits(), out)
 }
 
 // The place after a mark: its unit type, currency and display code.
 fn mark(mark: Mark, out: &mut [u8], from: usize) -> usize {
     let mut at = put(b" unit ", out, from);
-    at = number(mark.unit as u64, out, at);
+    at = number(u64::from(mark.unit), out, at);
     at = put(b" currency ", out, at);
-    at = number(mark.currency as u64, out, at);
+    at = number(u64::from(mark.currency), out, at);
     at = put(b" display ", out, at);
-    number(mark.display as u64, out, at)
+    number(u64::from(mark.display), out, at)
 }

@@ -1,97 +1,80 @@
 // The bytes that a line adds to the message.
 #![tactic(auto)]
 
-ghost use Rattle.std.specs.Prelude.{◌+◌, ◌≤◌, length};
+ghost use Rattle.std.specs.Prelude.{◌≤◌, ◌<◌, length, IfSome};
 
 use programs_pieces::put;
 use vectors_lines::{find, number, part};
 
-// Where a token of a line ends, and the message's length after it: past the message's room where the token is not
-// understood or does not fit.
+// Where a token of a line ends, and the message's length after it: past the message's room where a text does not fit.
 #[derive(Clone, Copy)]
 struct Step {
     at: usize,
     length: usize,
 }
 
-// The message's length after the bytes that `line` gives from `from` on; past the message's room where one is not
-// understood or does not fit.
-pub fn added(line: &[u8], from: usize, message: &mut [u8], before: usize) -> usize
-    ensures { result ≤ length message.new + 1 }
+// The message's length after the bytes that `line` gives from `from` on; none where one is not understood or does not
+// fit.
+pub fn added(line: &[u8], from: usize, message: &mut [u8], before: usize) -> Option<usize>
+    ensures { IfSome result (λ n. n ≤ length message.new) }
 {
-    let mut at = from;
-    let mut length = before;
-    while at < line.len() {
-        let step = token(line, at, message, length);
-        if step.at <= at {
-            return message.len() + 1;
-        }
-        at = step.at;
-        length = step.length;
+    let mut step = Step {
+        at: from,
+        length: before,
+    };
+    while step.at < line.len() {
+        step = token(line, message, step)?;
     }
-    if message.len() < length {
-        return message.len() + 1;
+    if step.length <= message.len() {
+        Some(step.length)
+    } else {
+        None
     }
-    length
 }
 
-// What the token of `line` at `at` adds to the message.
-fn token(line: &[u8], at: usize, message: &mut [u8], length: usize) -> Step {
-    if line.len() <= at {
-        return Step { at, length };
+// The step after the token of `line` that begins where this one ended.
+fn token(line: &[u8], message: &mut [u8], before: Step) -> Option<Step>
+    requires { before.at < length line.now }
+    ensures { IfSome result (λ s. before.at < s.at) }
+{
+    let at = before.at;
+    let length = before.length;
+    match line[at] {
+        b' ' => Some(Step { at: at + 1, length }),
+        b'"' => quoted(line, at + 1, message, length),
+        b'@' => named(line, at + 1, message, length),
+        _ => counted(line, at, message, length),
     }
-    let b = line[at];
-    if b == b' ' {
-        return Step { at: at + 1, length };
-    }
-    if b == b'"' {
-        return quoted(line, at + 1, message, length);
-    }
-    if b == b'@' {
-        return named(line, at, message, length);
-    }
-    counted(line, at, message, length)
 }
 
 // A text, up to the quotation mark that ends it.
-fn quoted(line: &[u8], at: usize, message: &mut [u8], length: usize) -> Step {
+fn quoted(line: &[u8], at: usize, message: &mut [u8], length: usize) -> Option<Step>
+    ensures { IfSome result (λ s. at < s.at) }
+{
     let end = find(line, at, b'"');
     if line.len() <= end {
-        return Step {
-            at: line.len(),
-            length: message.len() + 1,
-        };
+        return None;
     }
-    let after = put(part(line, at, end), message, length);
-    Step {
+    Some(Step {
         at: end + 1,
-        length: after,
-    }
+        length: put(part(line, at, end), message, length),
+    })
 }
 
-// The message S, or the header of it, by name.
-fn named(line: &[u8], at: usize, message: &mut [u8], length: usize) -> Step {
+// The message S, or the header of it, by the name that stands at `at`.
+fn named(line: &[u8], at: usize, message: &mut [u8], length: usize) -> Option<Step>
+    ensures { IfSome result (λ s. at ≤ s.at) }
+{
     let end = find(line, at, b' ');
-    let name = part(line, at, end);
-    if check::same(name, b"@front") {
-        let after = front(message, length);
-        return Step {
-            at: end,
-            length: after,
-        };
-    }
-    if check::same(name, b"@S") {
-        let header = front(message, length);
-        let after = put(b"\x05\x3F\xC9\x99\x99\x99\x99\x99\x9A", message, header);
-        return Step {
-            at: end,
-            length: after,
-        };
-    }
-    Step {
-        at: line.len(),
-        length: message.len() + 1,
-    }
+    let length = match part(line, at, end) {
+        b"front" => front(message, length),
+        b"S" => {
+            let header = front(message, length);
+            put(b"\x05\x3F\xC9\x99\x99\x99\x99\x99\x9A", message, header)
+        }
+        _ => return None,
+    };
+    Some(Step { at: end, length })
 }
 
 // The message's length after the header of S, the message of 000 section 2.3.6 as document 01 corrects it: frames 0 and
@@ -108,49 +91,23 @@ fn front(message: &mut [u8], length: usize) -> usize {
 }
 
 // A byte, or a number of times a byte.
-fn counted(line: &[u8], at: usize, message: &mut [u8], length: usize) -> Step {
+fn counted(line: &[u8], at: usize, message: &mut [u8], length: usize) -> Option<Step>
+    ensures { IfSome result (λ s. at < s.at) }
+{
     let n = number(line, at);
-    let value = n.value;
-    let end = n.at;
-    if line.len() <= end {
-        let after = fill(value, 1, message, length);
-        return Step {
-            at: end,
-            length: after,
-        };
+    let value = n.value?;
+    if line.get(n.at) != Some(&b'*') {
+        let length = fill(value, 1, message, length)?;
+        return Some(Step { at: n.at, length });
     }
-    if line[end] == b'*' {
-        let b = number(line, end + 1);
-        let after = fill(b.value, value, message, length);
-        return Step {
-            at: b.at,
-            length: after,
-        };
-    }
-    let after = fill(value, 1, message, length);
-    Step {
-        at: end,
-        length: after,
-    }
+    let b = number(line, n.at + 1);
+    let length = fill(b.value?, value, message, length)?;
+    Some(Step { at: b.at, length })
 }
 
-// The message's length after `times` bytes of this value; past the message's room where they do not fit or it is no
-// byte.
-fn fill(value: usize, times: usize, message: &mut [u8], length: usize) -> usize {
-    if 255 < value {
-        return message.len() + 1;
-    }
-    if message.len() < length {
-        return message.len() + 1;
-    }
-    if message.len() - length < times {
-        return message.len() + 1;
-    }
-    let b = value as u8;
-    let mut i = 0;
-    while i < times {
-        message[length + i] = b;
-        i += 1;
-    }
-    length + times
+// The message's length after `times` bytes of this value; none where they do not fit or it is no byte.
+fn fill(value: usize, times: usize, message: &mut [u8], length: usize) -> Option<usize> {
+    let b = u8::try_from(value).ok()?;
+    message.get_mut(length..)?.get_mut(..times)?.fill(b);
+    Some(length + times)
 }

@@ -6,7 +6,11 @@ use mathlib.Core.List.{List}
 use native.Mathlib.Omega.{arith}
 use lib.ListN.{length, take, drop, length-append}
 use lib.Dec.{leb, ltb}
-use borrow.Author.Tests.{le-leb, lt-leb, lt-ltb, le-ltb, eq-eqb, ne_eqb, ltb-true, leb-true}
+use borrow.Author.Tests.{le-leb, lt-leb, ltb-true, leb-true}
+use Rattle.std.specs.Prelude.{Option, None, Some, Result, Ok, Err}
+use Rattle.std.specs.Result.{IsErrAnd}
+use Rattle.sim0mq.specs.declared.Refusal.{Refusal}
+use Rattle.sim0mq.specs.Views.{number_of}
 use Rattle.sim0mq.specs.Answer.{Answer, fine, refused}
 use Rattle.sim0mq.specs.Message.{limit}
 use Rattle.sim0mq.proofs.Answers.{and_true}
@@ -16,33 +20,14 @@ use Rattle.sim0mq_kinds.specs.declared.Scalar.{Scalar}
 use Rattle.writing_encoding.specs.Scalars.{scalar_text, writable, scalar_given}
 use Rattle.sim0mq.specs.Table.{placed}
 use Rattle.writing_opening.specs.Opening.{fitting, buffer_after}
-use Rattle.writing.specs.Writing.{Given, encoded, scalar, field_given, takes, adding, closing, after_adding}
-use Rattle.writing_encoding.specs.Encoded.{encoded_as}
+use Rattle.writing.specs.Writing.{Given, encoded, scalar, field_given, takes, adding, Handed, after_adding, handed}
+use Rattle.writing_encoding.specs.Encoded.{field_in, encoded_as}
 use Rattle.writing_encoding.specs.declared.Encoded.{Encoded}
 use Rattle.writing.specs.declared.Writer.{Writer}
-use Rattle.writing.specs.declared.Wrote.{Wrote}
 use Rattle.sim0mq_buffers.proofs.PlaceLaws.{front_stands}
 
--- a state that takes a field: as many as declared were added, closed, too much written, and whether there is room
+-- what a state is that takes a field
 module _ (w : Writer) (room : ℕ) where
-  pub takes_full : w.declared ≤ w.added → false ≡ takes w room
-  unfolding takes
-  takes_full h = sym (simp (le-ltb w.added w.declared h))
-
-  module _ (some : w.added < w.declared) where
-    pub takes-closed : w.closed ≡ true → false ≡ takes w room
-    unfolding takes
-    takes-closed e = sym (simp (lt-ltb w.added w.declared some, e))
-
-    pub takes-long : w.closed ≡ false → limit < w.written → false ≡ takes w room
-    unfolding takes
-    takes-long e h = sym (simp (lt-ltb w.added w.declared some, e, lt-leb w.written limit h))
-
-    pub takes-room : w.closed ≡ false → w.written ≤ limit → leb w.written room ≡ takes w room
-    unfolding takes
-    takes-room e h = sym (simp (lt-ltb w.added w.declared some, e, le-leb w.written limit h))
-
-  -- what such a state is
   pub takes_within : takes w room ≡ true → (w.added < w.declared) × (w.written ≤ limit) × (w.written ≤ room)
   unfolding takes
   takes_within e =
@@ -79,10 +64,19 @@ module _ (w : Writer) (room : ℕ) (g : Given) where
   unfolding adding
   adding_text l e q = simp (e, q)
 
--- what a call tells of an answer, it tells of the one that is the same
-pub told_as : (w : Writer) (out last : List ℕ) (r : Wrote) (a b : Answer (List ℕ)) → a ≡ b → r ≡ after_adding w b → last ≡ buffer_after out w.written b
-    → (r ≡ after_adding w a) × (last ≡ buffer_after out w.written a)
-told_as w out last r a b e said left = (said ∙ sym (ap (after_adding w) e), left ∙ sym (ap (buffer_after out w.written) e))
+-- what is handed back after an answer is handed back after the one that is the same
+pub told_as : (w : Writer) (out last : List ℕ) (h : Handed) (a b : Answer (List ℕ)) → a ≡ b → h ≡ after_adding w b
+    → last ≡ buffer_after out w.written b → (h ≡ after_adding w a) × (last ≡ buffer_after out w.written a)
+told_as w out last h a b e said left = (said ∙ sym (ap (after_adding w) e), left ∙ sym (ap (buffer_after out w.written) e))
+
+abbrev shown : Writer → Refusal → Handed
+shown w r = record { said = refused (number_of r.reason) r.place; writer = w }
+
+-- what is refused hands back the state that was taken, also where a `?` hands the refusal on
+pub handed_err : (w : Writer) (r : Result Writer Refusal) (e : Refusal) → IsErrAnd r (λ y. y ≡ e)
+    → handed w r ≡ shown w e
+handed_err w (Ok v) e h = absurd h
+handed_err w (Err y) e h = ap (shown w) h
 
 -- an encoded field, judged as a payload of one field
 module _ (l : List ℕ) where
@@ -99,37 +93,22 @@ front_long : (out l : List ℕ) → length l ≤ length (placed out 0 l)
 unfolding placed
 front_long out l = omega (arith, length-append l (drop (0 + length l) out))
 
-module _ (x : Encoded) (v : Scalar) (e : x ≡ encoded_as (scalar_given v)) where
-  pub scalar_refused : x.length ≡ 0 → field_given (scalar v) ≡ refused 17 0
-  unfolding field_given scalar_given scalar_text
+module _ (x : Option Encoded) (v : Scalar) (e : x ≡ encoded_as (scalar_given v)) where
+  pub scalar_refused : x ≡ None → field_given (scalar v) ≡ refused 17 0
+  unfolding field_given scalar_given
   scalar_refused h = go (writable v) refl
     where
       go : (t : Bool) → writable v ≡ t → field_given (scalar v) ≡ refused 17 0
-      go true q = let long = ap (λ (y : Encoded). y.length) (rw q at e) in absurd (omega arith)
+      go true q = let some = rw q at e in cc
       go false q = simp q
 
-  pub scalar_fine : (x.length ≡ 0 → ⊥) → (field_given (scalar v) ≡ fine (take x.length x.bytes)) × (x.length ≤ length x.bytes)
+  pub scalar_fine : (f : Encoded) → x ≡ Some f → (field_given (scalar v) ≡ fine (take f.length f.bytes)) × (f.length ≤ length f.bytes)
   unfolding field_given scalar_given
-  scalar_fine h = go (writable v) refl
+  scalar_fine f h = go (writable v) refl
     where
-      go : (t : Bool) → writable v ≡ t → (field_given (scalar v) ≡ fine (take x.length x.bytes)) × (x.length ≤ length x.bytes)
-      go true q = let same = rw q at e in rw (same, q) (ap fine (sym (front_stands _ (scalar_text v))), front_long _ (scalar_text v))
-      go false q = absurd (h (ap (λ (y : Encoded). y.length) (rw q at e)))
-
--- closing: closed, too much written, not as many as declared, all added
-module _ (w : Writer) where
-  pub closing_closed : w.closed ≡ true → closing w ≡ refused 15 0
-  unfolding closing
-  closing_closed e = simp e
-
-  pub closing_long : w.closed ≡ false → limit < w.written → closing w ≡ refused 15 0
-  unfolding closing
-  closing_long e h = simp (e, lt-leb w.written limit h)
-
-  pub closing_short : w.closed ≡ false → w.written ≤ limit → (w.added ≡ w.declared → ⊥) → closing w ≡ refused 15 0
-  unfolding closing
-  closing_short e h q = simp (e, le-leb w.written limit h, ne_eqb w.added w.declared q)
-
-  pub closing_fine : w.closed ≡ false → w.written ≤ limit → w.added ≡ w.declared → closing w ≡ fine w.written
-  unfolding closing
-  closing_fine e h q = simp (e, le-leb w.written limit h, eq-eqb w.added w.declared q)
+      go : (t : Bool) → writable v ≡ t → (field_given (scalar v) ≡ fine (take f.length f.bytes)) × (f.length ≤ length f.bytes)
+      go true q =
+          let some = rw q at e in
+          let same : f ≡ field_in (scalar_text v) = cc in
+          rw (same, q) (ap fine (sym (front_stands _ (scalar_text v))), front_long _ (scalar_text v))
+      go false q = let none = rw q at e in cc

@@ -1,22 +1,27 @@
 -- What opening hands back, told by the answer for the header: a refusal, or its length.
 use Prim.Native.Nat.{ℕ}
-use mathlib.Core.Path.{◌≡◌, sym, ap, ◌∙◌}
+use mathlib.Core.Path.{◌≡◌, refl, sym, ap, ◌∙◌}
 use mathlib.Core.Bool.{true, false}
 use mathlib.Core.List.{List}
 use lib.IntN.{ℤ}
+use Rattle.std.specs.Prelude.{Option, None, Some, unwrap_or}
 use Rattle.sim0mq.specs.Answer.{Answer, fine, refused, length_of}
-use Rattle.sim0mq.specs.declared.Judged.TheVariants.{Accepted, Refused}
 use Rattle.sim0mq.proofs.Answers.{not_fine, fine_eq}
 use Rattle.writing_opening.specs.Opening.{header_given, buffer_after}
-use Rattle.writing.specs.declared.Wrote.{Wrote}
-use Rattle.writing.specs.Writing.{Opening, count_code, opening, after_opening}
+use Rattle.writing.specs.Writing.{Opening, count_code, opening, Handed, after_opening}
+
+-- the code of the count's type, where 2 stands for one that is not stated
+pub code_given : (kind : Option ℕ) → unwrap_or kind 2 ≡ count_code kind
+unfolding count_code
+code_given None = refl
+code_given (Some c) = refl
 
 -- what a refused opening hands back, and a granted one of n bytes
-abbrev shut : ℕ → ℕ → Wrote
-shut k p = record { said = Refused (record { number = k; place = p }); writer = record { written = 0; declared = 0; added = 0; closed = true } }
+abbrev shut : ℕ → ℕ → Handed
+shut k p = record { said = refused k p; writer = record { written = 0; declared = 0; added = 0; closed = true } }
 
-abbrev opened : Opening → ℕ → Wrote
-opened o n = record { said = Accepted n; writer = record { written = n; declared = o.fields; added = 0; closed = false } }
+abbrev opened : Opening → ℕ → Handed
+opened o n = record { said = fine n; writer = record { written = n; declared = o.fields; added = 0; closed = false } }
 
 shut_as : (o : Opening) (k p : ℕ) (a : Answer (List ℕ)) → refused k p ≡ length_of a → shut k p ≡ after_opening o a
 shut_as o k p (fine l) e = absurd (not_fine e)

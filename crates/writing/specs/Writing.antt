@@ -1,14 +1,13 @@
 -- The writer (01, "The writer"): what opening, adding and closing answer, and the state that each hands back.
-use Rattle.std.specs.Prelude.{ℕ, ◌+◌, Bool, true, false, not, ◌&&◌, List, leb, ltb, eqb, ℤ, length}
+use Rattle.std.specs.Prelude.{ℕ, ◌+◌, Bool, true, false, not, ◌&&◌, List, leb, ltb, eqb, ℤ, length, Option, None, Some, Result, Ok, Err}
 use Rattle.sim0mq.specs.Answer.{Answer, fine, refused, ◌>>=◌, ◌>>◌, guard}
 use Rattle.sim0mq.specs.Payload.{payload}
 use Rattle.sim0mq.specs.Message.{limit}
-use Rattle.sim0mq.specs.declared.Judged.TheVariants.{Accepted, Refused}
+use Rattle.sim0mq.specs.declared.Refusal.{Refusal}
+use Rattle.sim0mq.specs.Views.{number_of, judged}
 use Rattle.sim0mq_kinds.specs.declared.Scalar.{Scalar}
 use Rattle.writing_encoding.specs.Scalars.{scalar_given}
 use Rattle.writing_opening.specs.Opening.{header_with, header_given, fitting}
-use Rattle.writing.specs.declared.CountType.{CountType}
-use Rattle.writing.specs.declared.CountType.TheVariants.{Unstated, Stated}
 use Rattle.writing.specs.declared.Writer.{Writer}
 use Rattle.writing.specs.declared.Wrote.{Wrote}
 
@@ -19,15 +18,15 @@ pub record Opening : Type 0 where
   pub number : ℤ
   pub status : ℕ
   pub fields : ℕ
-  pub kind : CountType
+  pub kind : Option ℕ
 
-abbrev pub asks_for : List ℕ → ℤ → ℕ → ℕ → CountType → Opening
+abbrev pub asks_for : List ℕ → ℤ → ℕ → ℕ → Option ℕ → Opening
 asks_for ids number status fields kind = record { ids = ids; number = number; status = status; fields = fields; kind = kind }
 
 -- The type code of the count: the one that is stated, or 2, the manual's standard coding (000, 2.3; 02, Ticket 8).
-unfoldable pub count_code : CountType → ℕ
-count_code Unstated = 2
-count_code (Stated c) = c
+unfoldable pub count_code : Option ℕ → ℕ
+count_code None = 2
+count_code (Some c) = c
 
 -- The header that is asked for.
 abbrev pub header_text : Opening → List ℕ
@@ -67,24 +66,35 @@ closing w = do
   guard (not w.closed && (leb w.written limit && eqb w.added w.declared)) 15 0
   fine w.written
 
--- What each call hands back: its answer, which where it is granted is the number of bytes written so far, and the
--- state. A refused opening hands back a closed state with every number 0; a refused adding or closing the state it
--- took.
-abbrev pub after_opening : Opening → Answer (List ℕ) → Wrote
-after_opening o (fine text) =
-    record { said = Accepted (length text); writer = record { written = length text; declared = o.fields; added = 0; closed = false } }
-after_opening o (refused k p) =
-    record { said = Refused (record { number = k; place = p }); writer = record { written = 0; declared = 0; added = 0; closed = true } }
+-- What a call hands back: what it says, which where it is granted is the number of bytes written so far, and the state.
+pub record Handed : Type 0 where
+  pub said : Answer ℕ
+  pub writer : Writer
 
-abbrev pub after_adding : Writer → Answer (List ℕ) → Wrote
+-- A refused opening hands back a closed state with every number 0; a refused adding or closing the state it took.
+abbrev pub after_opening : Opening → Answer (List ℕ) → Handed
+after_opening o (fine text) =
+    record { said = fine (length text); writer = record { written = length text; declared = o.fields; added = 0; closed = false } }
+after_opening o (refused k p) =
+    record { said = refused k p; writer = record { written = 0; declared = 0; added = 0; closed = true } }
+
+abbrev pub after_adding : Writer → Answer (List ℕ) → Handed
 after_adding w (fine text) =
     record {
-      said = Accepted (w.written + length text);
+      said = fine (w.written + length text);
       writer = record { written = w.written + length text; declared = w.declared; added = w.added + 1; closed = false };
     }
-after_adding w (refused k p) = record { said = Refused (record { number = k; place = p }); writer = w }
+after_adding w (refused k p) = record { said = refused k p; writer = w }
 
-abbrev pub after_closing : Writer → Answer ℕ → Wrote
+abbrev pub after_closing : Writer → Answer ℕ → Handed
 after_closing w (fine n) =
-    record { said = Accepted n; writer = record { written = w.written; declared = w.declared; added = w.added; closed = true } }
-after_closing w (refused k p) = record { said = Refused (record { number = k; place = p }); writer = w }
+    record { said = fine n; writer = record { written = w.written; declared = w.declared; added = w.added; closed = true } }
+after_closing w (refused k p) = record { said = refused k p; writer = w }
+
+-- What the code hands back, in these words; and what it hands back on a state, by what the call led to.
+abbrev pub wrote_as : Wrote → Handed
+wrote_as r = record { said = judged r.said; writer = r.writer }
+
+abbrev pub handed : Writer → Result Writer Refusal → Handed
+handed w (Ok v) = record { said = fine v.written; writer = v }
+handed w (Err r) = record { said = refused (number_of r.reason) r.place; writer = w }

@@ -2,7 +2,7 @@
 -- it is.
 use Prim.Native.Nat.{ℕ, suc, ◌+◌, ◌-◌, ◌≤◌, ◌<◌, ◌^◌}
 use mathlib.Core.Path.{◌≡◌, refl, sym, ap, ◌∙◌}
-use mathlib.Core.Bool.{Bool, true, false, cond, true≢false}
+use mathlib.Core.Bool.{Bool, true, false, ◌&&◌, cond, true≢false}
 use mathlib.Core.List.{List, [], ◌∷◌, ◌++◌}
 use native.Mathlib.Omega.{arith}
 use lib.Dec.{T, eqb}
@@ -13,7 +13,7 @@ use lib.ListN.{length, get_or, set, replicate, length-append, length-set}
 use borrow.Author.Tests.{le-leb, lt-leb, eq-eqb, ne_eqb}
 use mir.Syntax.{w64}
 use mir.Val.{Fits, bool_byte}
-use Rattle.sim0mq.specs.Answer.{fine, refused}
+use Rattle.std.specs.Prelude.{None, Some}
 use Rattle.sim0mq.specs.Mark.{per_row, Kind, plain, money, money_per, unknown, kind_of, currency_taken, display_taken}
 use Rattle.sim0mq_marks.proofs.MarkCases.{kind_plain, kind_between, kind_money, kind_per, kind_above}
 use Rattle.sim0mq_numbers.specs.Bytes.{big_bytes}
@@ -28,53 +28,36 @@ use Rattle.sim0mq.specs.Table.{placed}
 use Rattle.sim0mq_buffers.specs.Placing.{put_in}
 use Rattle.writing_puts.specs.Placing.{number_text}
 use Rattle.writing_puts.specs.Signed.{bits_up_to}
-use Rattle.writing_encoding.specs.Encoded.{encoded_as, marked_given}
+use Rattle.writing_encoding.specs.Encoded.{field_in, encoded_as, marked_given}
 use Rattle.sim0mq.proofs.PlaceLaws.{placed_length, placed_on}
 use Rattle.sim0mq_buffers.proofs.PlaceLaws.{placed_byte}
 use Rattle.writing_puts.proofs.PlaceLaws.{placed_coded, big_length, big_fits}
 use Rattle.writing_puts.proofs.SignedLaws.{bits_of_lem}
 
--- whether a mark is taken, whose unit type is u
-module _ (m : Mark) (u : ℕ) (is : u ≡ m.unit) where
-  taken_of : (k : Kind) → kind_of u ≡ k → mark_taken m (kind_of m.unit) ≡ mark_taken m k
-  taken_of k e = ap (mark_taken m) (ap kind_of (sym is) ∙ e)
-
-  pub plain_foreign : u ≤ 28 → (m.currency ≡ 0 → ⊥) → mark_taken m (kind_of m.unit) ≡ false
+-- whether a mark is taken, by its unit type's kind
+module _ (m : Mark) where
+  pub plain_taken : m.unit ≤ 28 → mark_taken m (kind_of m.unit) ≡ (eqb m.currency 0 && display_taken m.unit m.display)
   unfolding mark_taken
-  plain_foreign h n = taken_of (plain u) (kind_plain u h) ∙ simp (ne_eqb m.currency 0 n)
+  plain_taken h = ap (mark_taken m) (kind_plain m.unit h)
 
-  pub plain_judged : u ≤ 28 → m.currency ≡ 0 → mark_taken m (kind_of m.unit) ≡ display_taken u m.display
+  pub between_untaken : 28 < m.unit → m.unit ≤ 99 → mark_taken m (kind_of m.unit) ≡ false
   unfolding mark_taken
-  plain_judged h e = taken_of (plain u) (kind_plain u h) ∙ simp (eq-eqb m.currency 0 e)
+  between_untaken h k = ap (mark_taken m) (kind_between m.unit h k)
 
-  pub between_untaken : 28 < u → u ≤ 99 → mark_taken m (kind_of m.unit) ≡ false
+  pub money_taken : m.unit ≡ 100 → mark_taken m (kind_of m.unit) ≡ (currency_taken m.currency && eqb m.display 0)
   unfolding mark_taken
-  between_untaken h k = taken_of unknown (kind_between u h k)
+  money_taken h = ap (mark_taken m) (kind_money m.unit h)
 
-  pub above_untaken : 106 < u → mark_taken m (kind_of m.unit) ≡ false
+  pub per_taken : 100 < m.unit → m.unit ≤ 106
+      → mark_taken m (kind_of m.unit) ≡ (currency_taken m.currency && display_taken (get_or per_row (m.unit - 101) 0) m.display)
   unfolding mark_taken
-  above_untaken h = taken_of unknown (kind_above u h)
+  per_taken h k = ap (mark_taken m) (kind_per m.unit h k)
 
-  -- of the kinds with a currency, the first test is the currency's
-  foreign : (b : Bool) (t : ℕ) → currency_taken m.currency ≡ false → mark_taken m (cond b money (money_per t)) ≡ false
+  pub above_untaken : 106 < m.unit → mark_taken m (kind_of m.unit) ≡ false
   unfolding mark_taken
-  foreign true t e = simp e
-  foreign false t e = simp e
+  above_untaken h = ap (mark_taken m) (kind_above m.unit h)
 
-  pub money_foreign : 99 < u → u ≤ 106 → currency_taken m.currency ≡ false → mark_taken m (kind_of m.unit) ≡ false
-  unfolding kind_of
-  money_foreign h k e =
-      taken_of (cond (eqb u 100) money (money_per (get_or per_row (u - 101) 0))) (simp (lt-leb u 28 (omega arith), lt-leb u 99 h, le-leb u 106 k))
-      ∙ foreign (eqb u 100) (get_or per_row (u - 101) 0) e
-
-  pub money_judged : u ≡ 100 → currency_taken m.currency ≡ true → mark_taken m (kind_of m.unit) ≡ eqb m.display 0
-  unfolding mark_taken
-  money_judged h e = taken_of money (kind_money u h) ∙ simp e
-
-  pub per_judged : 100 < u → u ≤ 106 → currency_taken m.currency ≡ true
-      → mark_taken m (kind_of m.unit) ≡ display_taken (get_or per_row (u - 101) 0) m.display
-  unfolding mark_taken
-  per_judged h k e = taken_of (money_per (get_or per_row (u - 101) 0)) (kind_per u h k) ∙ simp e
+pub ruleset mark_kinds = (plain_taken, between_untaken, money_taken, per_taken, above_untaken, eq-eqb, ne_eqb)
 
 -- the bytes of a mark
 module _ (m : Mark) where
@@ -89,8 +72,8 @@ module _ (m : Mark) where
   -- a taken mark has a unit type with a currency, unless it is plain
   pub taken_money : mark_taken m (kind_of m.unit) ≡ true → 28 < m.unit → (99 < m.unit) × (m.unit ≤ 106)
   taken_money t h =
-      let low : m.unit ≤ 99 → ⊥ = λ k. true≢false (sym t ∙ between_untaken m m.unit refl h k) in
-      let high : 106 < m.unit → ⊥ = λ k. true≢false (sym t ∙ above_untaken m m.unit refl k) in
+      let low : m.unit ≤ 99 → ⊥ = λ k. true≢false (sym t ∙ between_untaken m h k) in
+      let high : 106 < m.unit → ⊥ = λ k. true≢false (sym t ∙ above_untaken m k) in
       (omega arith, omega arith)
 
   -- from 1 on in a buffer, piece by piece
@@ -140,11 +123,11 @@ module _ (m : Mark) where
 
 -- a field at the front of 13 zero bytes: a number, or a mark and a number
 pub plain_encoded : (c n x : ℕ) (now : List ℕ) → now ≡ placed (replicate 13 0) 0 (number_text c n x)
-    → ◌≡◌ {A = Encoded} (record { bytes = now; length = 1 + n }) (encoded_as (fine (number_text c n x)))
+    → ◌≡◌ {A = Encoded} (record { bytes = now; length = 1 + n }) (field_in (number_text c n x))
 plain_encoded c n x now e = let long : 1 + n ≡ suc (length (big_bytes n x)) = omega (arith, big_length n x) in rw (e, long)
 
 module _ (c n x : ℕ) (m : Mark) where
-  pub untaken_encoded : mark_taken m (kind_of m.unit) ≡ false → encoded_as (refused 17 0) ≡ encoded_as (marked_given c m n x)
+  pub untaken_encoded : mark_taken m (kind_of m.unit) ≡ false → None ≡ encoded_as (marked_given c m n x)
   unfolding marked_given
   untaken_encoded e = simp e
 
@@ -169,7 +152,7 @@ module _ (c n x : ℕ) (m : Mark) where
     marked-fits short = omega (arith, marked-short short, front_length)
 
     pub marked-encoded : (now : List ℕ) → n ≤ 8 → mark_taken m (kind_of m.unit) ≡ true → now ≡ put_in marked end (big_bytes n x)
-        → ◌≡◌ {A = Encoded} (record { bytes = now; length = end + n }) (encoded_as (marked_given c m n x))
+        → Some (record { bytes = now; length = end + n }) ≡ encoded_as (marked_given c m n x)
     unfolding marked_given
     marked-encoded now short t g =
         let mark = bytes_of_mark m (kind_of m.unit) in
@@ -179,13 +162,22 @@ module _ (c n x : ℕ) (m : Mark) where
         let long : end + n ≡ suc (length (mark ++ big_bytes n x)) = omega (arith, e, length-append mark (big_bytes n x), big_length n x) in
         rw (whole, long, t)
 
+-- what the bits of a float or double say: it is a NaN, or it is none and these are its bits
+pub no_bits : (t : Bool) (b : ℕ) → None ≡ cond t None (Some b) → t ≡ true
+no_bits true b e = refl
+no_bits false b e = cc
+
+pub some_bits : (t : Bool) (n b : ℕ) → Some n ≡ cond t None (Some b) → (t ≡ false) × (n ≡ b)
+some_bits true n b e = cc
+some_bits false n b e = (refl, cc)
+
 -- a scalar that may not be written; one that may; and one that may where its mark may
 module _ (v : Scalar) where
-  pub unwritable : writable v ≡ false → encoded_as (refused 17 0) ≡ encoded_as (scalar_given v)
+  pub unwritable : writable v ≡ false → None ≡ encoded_as (scalar_given v)
   unfolding scalar_given
   unwritable e = simp e
 
-  pub written : (c n x : ℕ) → writable v ≡ true → scalar_text v ≡ number_text c n x → encoded_as (fine (number_text c n x)) ≡ encoded_as (scalar_given v)
+  pub written : (c n x : ℕ) → writable v ≡ true → scalar_text v ≡ number_text c n x → Some (field_in (number_text c n x)) ≡ encoded_as (scalar_given v)
   unfolding scalar_given
   written c n x e t = simp (e, t)
 
@@ -196,9 +188,9 @@ module _ (v : Scalar) where
 
   -- a signed number, whose bits the code takes at a width
   pub signed_written : (c n w b : ℕ) (y z : ℤ) → writable v ≡ true → scalar_text v ≡ number_text c n (bits_of w z)
-      → b ≡ bits_up_to (2 ^ w - 1) y → y ≡ z → encoded_as (fine (number_text c n b)) ≡ encoded_as (scalar_given v)
+      → b ≡ bits_up_to (2 ^ w - 1) y → y ≡ z → Some (field_in (number_text c n b)) ≡ encoded_as (scalar_given v)
   signed_written c n w b y z e t g k =
-      ap (λ (a : ℕ). encoded_as (fine (number_text c n a))) (g ∙ ap (bits_up_to (2 ^ w - 1)) k ∙ bits_of_lem w z)
+      ap (λ (a : ℕ). Some (field_in (number_text c n a))) (g ∙ ap (bits_up_to (2 ^ w - 1)) k ∙ bits_of_lem w z)
       ∙ written c n (bits_of w z) e t
 
 -- the 32 bits of a float, as the code widens them

@@ -1,14 +1,15 @@
 // Encoding: scalars as the bytes that a message has of them.
 #![tactic(auto)]
 
-ghost use Rattle.std.specs.Prelude.{◌≡◌, true, ◌+◌, ◌≤◌, length};
-ghost use Rattle.sim0mq.specs.Answer.{fine};
+ghost use Rattle.std.specs.Prelude.{◌≡◌, true, ◌+◌, ◌≤◌, cond, length};
+ghost use Rattle.std.specs.Float.{binary32, binary64};
+ghost use Rattle.std.specs.Float.Ieee.{is_nan, to_bits};
 ghost use Rattle.sim0mq.specs.Mark.{kind_of};
 ghost use Rattle.asking_scalars.specs.Bytes.{bytes_of_mark};
 ghost use Rattle.writing_encoding.specs.Scalars.{mark_taken, scalar_given};
 ghost use Rattle.sim0mq.specs.Table.{placed};
 ghost use Rattle.writing_puts.specs.Placing.{number_text};
-ghost use Rattle.writing_encoding.specs.Encoded.{encoded_as, marked_given};
+ghost use Rattle.writing_encoding.specs.Encoded.{field_in, encoded_as, marked_given};
 
 use sim0mq_displays::{currency_taken, display_taken};
 use sim0mq_kinds::{Mark, Scalar};
@@ -16,23 +17,17 @@ use sim0mq_numbers::wide;
 use sim0mq_tables::per;
 use writing_puts::{bits, put_big, put_number};
 
-// An encoded field: its bytes, with zero after them, and how many they are; none where it may not be written.
+// An encoded field: its bytes, with zero after them, and how many they are.
 #[derive(Clone, Copy)]
 pub struct Encoded {
     pub bytes: [u8; 13],
     pub length: usize,
 }
 
-// No field.
-const NONE: Encoded = Encoded {
-    bytes: [0u8; 13],
-    length: 0,
-};
-
 // The field of this code that is one number of n bytes.
 fn plain(code: u8, n: usize, x: u64) -> Encoded
     requires { n ≤ 8 }
-    ensures { result ≡ encoded_as (fine (number_text code n x)) }
+    ensures { result ≡ field_in (number_text code n x) }
 {
     let mut bytes = [0u8; 13];
     put_number(&mut bytes, 0, code, n, x);
@@ -43,29 +38,18 @@ fn plain(code: u8, n: usize, x: u64) -> Encoded
 }
 
 // Whether reading takes this mark, and gives just these numbers for it.
+#[tactic(auto, using(crate::proofs::EncodeCases::mark_kinds))]
 pub fn mark_taken(mark: Mark) -> bool
     ensures { result ≡ mark_taken mark (kind_of mark.unit) }
 {
     let unit = wide(mark.unit);
-    if unit <= 28 {
-        if mark.currency != 0 {
-            return false;
-        }
-        return display_taken(unit, mark.display);
+    match unit {
+        0..=28 => mark.currency == 0 && display_taken(unit, mark.display),
+        100 => currency_taken(usize::from(mark.currency)) && mark.display == 0,
+        101..=106 => currency_taken(usize::from(mark.currency))
+            && display_taken(per(unit - 101), mark.display),
+        _ => false,
     }
-    if unit <= 99 {
-        return false;
-    }
-    if 106 < unit {
-        return false;
-    }
-    if !currency_taken(mark.currency as usize) {
-        return false;
-    }
-    if unit == 100 {
-        return mark.display == 0;
-    }
-    display_taken(per(unit - 101), mark.display)
 }
 
 // The bytes of a mark in `out` from 1 on: the place after them.
@@ -79,7 +63,7 @@ fn put_mark(mark: Mark, out: &mut [u8]) -> usize
         out[2] = mark.display;
         return 3;
     }
-    put_big(out, 2, 2, mark.currency as u64);
+    put_big(out, 2, 2, u64::from(mark.currency));
     if mark.unit == 100 {
         return 4;
     }
@@ -88,79 +72,59 @@ fn put_mark(mark: Mark, out: &mut [u8]) -> usize
 }
 
 // The field of this code that is a mark and a number of n bytes; none where the mark may not be written.
-fn marked(code: u8, mark: Mark, n: usize, x: u64) -> Encoded
+fn marked(code: u8, mark: Mark, n: usize, x: u64) -> Option<Encoded>
     requires { n ≤ 8 }
     ensures { result ≡ encoded_as (marked_given code mark n x) }
 {
     if !mark_taken(mark) {
-        return NONE;
+        return None;
     }
     let mut bytes = [0u8; 13];
     bytes[0] = code;
     let end = put_mark(mark, &mut bytes);
     put_big(&mut bytes, end, n, x);
-    Encoded {
+    Some(Encoded {
         bytes,
         length: end + n,
-    }
+    })
 }
 
-// The field of a float; none where it is a NaN.
-fn float(x: f32) -> Encoded
-    ensures { result ≡ encoded_as (scalar_given (Scalar.Float x)) }
+// The bits of a float; none where it is a NaN.
+fn float_bits(x: f32) -> Option<u64>
+    ensures { result ≡ cond (is_nan x) None (Some (to_bits binary32 x)) }
 {
-    if x != x {
-        return NONE;
+    if x.is_nan() {
+        return None;
     }
-    plain(4, 4, f32::to_bits(x) as u64)
+    Some(u64::from(x.to_bits()))
 }
 
-// The field of a double; none where it is a NaN.
-fn double(x: f64) -> Encoded
-    ensures { result ≡ encoded_as (scalar_given (Scalar.Double x)) }
+// The bits of a double; none where it is a NaN.
+fn double_bits(x: f64) -> Option<u64>
+    ensures { result ≡ cond (is_nan x) None (Some (to_bits binary64 x)) }
 {
-    if x != x {
-        return NONE;
+    if x.is_nan() {
+        return None;
     }
-    plain(5, 8, f64::to_bits(x))
-}
-
-// The field of a float with its mark; none where it is a NaN, or the mark may not be written.
-fn float_with(x: f32, mark: Mark) -> Encoded
-    ensures { result ≡ encoded_as (scalar_given (Scalar.FloatUnit x mark)) }
-{
-    if x != x {
-        return NONE;
-    }
-    marked(25, mark, 4, f32::to_bits(x) as u64)
-}
-
-// The field of a double with its mark; none where it is a NaN, or the mark may not be written.
-fn double_with(x: f64, mark: Mark) -> Encoded
-    ensures { result ≡ encoded_as (scalar_given (Scalar.DoubleUnit x mark)) }
-{
-    if x != x {
-        return NONE;
-    }
-    marked(26, mark, 8, f64::to_bits(x))
+    Some(x.to_bits())
 }
 
 // The field that a scalar is written as; none where it may not be written.
-pub fn encode(value: Scalar) -> Encoded
+pub fn encode(value: Scalar) -> Option<Encoded>
     ensures { result ≡ encoded_as (scalar_given value) }
 {
     match value {
-        Scalar::Byte(x) => plain(0, 1, bits(x as i64, 255)),
-        Scalar::Short(x) => plain(1, 2, bits(x as i64, 65535)),
-        Scalar::Int(x) => plain(2, 4, bits(x as i64, 4294967295)),
-        Scalar::Long(x) => plain(3, 8, bits(x, 18446744073709551615)),
-        Scalar::Float(x) => float(x),
-        Scalar::Double(x) => double(x),
-        Scalar::Boolean(x) => plain(6, 1, x as u64),
-        Scalar::Char8(x) => plain(7, 1, x as u64),
-        Scalar::Char16(x) => plain(8, 2, x as u64),
-        Scalar::FloatUnit(x, mark) => float_with(x, mark),
-        Scalar::DoubleUnit(x, mark) => double_with(x, mark),
-        Scalar::NotNumber(_) => NONE,
+        Scalar::Byte(x) => Some(plain(0, 1, bits(i64::from(x), 255))),
+        Scalar::Short(x) => Some(plain(1, 2, bits(i64::from(x), 65535))),
+        Scalar::Int(x) => Some(plain(2, 4, bits(i64::from(x), 4294967295))),
+        Scalar::Long(x) => Some(plain(3, 8, bits(x, 18446744073709551615))),
+        Scalar::Float(x) => Some(plain(4, 4, float_bits(x)?)),
+        Scalar::Double(x) => Some(plain(5, 8, double_bits(x)?)),
+        Scalar::Boolean(x) => Some(plain(6, 1, u64::from(x))),
+        Scalar::Char8(x) => Some(plain(7, 1, u64::from(x))),
+        Scalar::Char16(x) => Some(plain(8, 2, u64::from(x))),
+        Scalar::FloatUnit(x, mark) => marked(25, mark, 4, float_bits(x)?),
+        Scalar::DoubleUnit(x, mark) => marked(26, mark, 8, double_bits(x)?),
+        Scalar::NotNumber(_) => None,
     }
 }

@@ -5,6 +5,7 @@ use mathlib.Core.Path.{◌≡◌, refl, ap, sym, ◌∙◌}
 use mathlib.Core.Bool.{Bool, true, false, ◌&&◌}
 use mathlib.Core.List.{List, ◌++◌, append_assoc}
 use native.Mathlib.Omega.{arith}
+use Rattle.std.proofs.Math.Bool.{and-false}
 use native.Mathlib.Numerals.{add-one}
 use lib.IntN.{ℤ}
 use lib.ListN.{length, length-append}
@@ -24,7 +25,7 @@ use Rattle.sim0mq.specs.Table.{placed}
 use Rattle.sim0mq_buffers.specs.Placing.{put_in}
 use Rattle.writing_puts.specs.Placing.{number_text}
 use Rattle.writing_opening.specs.Opening.{ids_from, holds, header_with, fitting, header_given}
-use Rattle.writing_opening.specs.Judges.{numbers_judged, opening_judged}
+use Rattle.writing_opening.specs.Judges.{most_of, numbers_judged, opening_judged}
 use Rattle.sim0mq.proofs.PlaceLaws.{placed_length, placed_on}
 use Rattle.sim0mq_buffers.proofs.PlaceLaws.{put_fits}
 use Rattle.writing_puts.proofs.PlaceLaws.{big_length}
@@ -51,10 +52,6 @@ pub id_goes : (s : List ℕ) (at : ℕ) (f : Field) → frame s id_codes at ≡ 
 id_goes s at f e = nth_goes s 1 at f (sym (nth_id s 1 at (omega arith)) ∙ e)
 
 -- the single numbers
-status_taken_lem : (x : ℕ) → 1 ≤ x → x ≤ 3 → status_taken x ≡ true
-unfolding status_taken
-status_taken_lem x h k = simp (le-leb 1 x h, le-leb x 3 k)
-
 count_typed : (c : ℕ) → c ≤ 2 → among c count_codes ≡ true
 unfolding among
 count_typed zero h = refl
@@ -66,41 +63,42 @@ count_untyped : (c : ℕ) → 2 < c → among c count_codes ≡ false
 unfolding among
 count_untyped c h = simp (ne_eqb c 0 (λ e. omega arith), ne_eqb c 1 (λ e. omega arith), ne_eqb c 2 (λ e. omega arith))
 
-count_held : (c fields : ℕ) → c ≤ 2 → fields ≤ most_fields → (c ≡ 0 → fields ≤ 127) → (fields_taken fields && holds c fields) ≡ true
-unfolding fields_taken holds width_of
-count_held zero fields h k z = let few = z refl in simp (le-leb fields most_fields k, lt-ltb fields 128 (omega arith))
-count_held (suc zero) fields h k z = simp (le-leb fields most_fields k, lt-ltb fields 32768 (omega arith))
-count_held (suc (suc zero)) fields h k z = simp (le-leb fields most_fields k, lt-ltb fields 2147483648 (omega arith))
-count_held (suc (suc (suc c))) fields h k z = absurd (omega arith)
+-- a type's count is taken up to the most that it says
+module _ (fields : ℕ) where
+  count_held : (c : ℕ) → c ≤ 2 → fields ≤ most_of c → (fields_taken fields && holds c fields) ≡ true
+  unfolding fields_taken holds width_of
+  count_held zero h k = simp (le-leb fields most_fields (omega arith), lt-ltb fields 128 (omega arith))
+  count_held (suc zero) h k = simp (le-leb fields most_fields k, lt-ltb fields 32768 (omega arith))
+  count_held (suc (suc zero)) h k = simp (le-leb fields most_fields k, lt-ltb fields 2147483648 (omega arith))
+  count_held (suc (suc (suc c))) h k = absurd (omega arith)
+
+  count_over : (c : ℕ) → c ≤ 2 → most_of c < fields → (fields_taken fields && holds c fields) ≡ false
+  unfolding fields_taken holds width_of
+  count_over zero h k = simp (le-ltb fields 128 k) (and-false (leb fields most_fields))
+  count_over (suc zero) h k = simp (lt-leb fields most_fields k)
+  count_over (suc (suc zero)) h k = simp (lt-leb fields most_fields k)
+  count_over (suc (suc (suc c))) h k = absurd (omega arith)
 
 -- the numbers of a header whose ids have n bytes
 module _ (n status c fields room : ℕ) where
-  pub numbers_low : status < 1 → numbers_judged n status c fields room ≡ refused 6 0
-  unfolding numbers_judged status_taken
-  numbers_low h = simp (lt-leb 1 status h)
+  pub numbers-status : status_taken status ≡ false → numbers_judged n status c fields room ≡ refused 6 0
+  unfolding numbers_judged
+  numbers-status e = simp e
 
-  pub numbers_high : 1 ≤ status → 3 < status → numbers_judged n status c fields room ≡ refused 6 0
-  unfolding numbers_judged status_taken
-  numbers_high h k = simp (le-leb 1 status h, lt-leb status 3 k)
-
-  module _ (low : 1 ≤ status) (high : status ≤ 3) where
+  module _ (known : status_taken status ≡ true) where
     pub numbers-type : 2 < c → numbers_judged n status c fields room ≡ refused 4 0
     unfolding numbers_judged
-    numbers-type h = simp (status_taken_lem status low high, count_untyped c h)
+    numbers-type h = simp (known, count_untyped c h)
 
-    pub numbers-many : c ≤ 2 → most_fields < fields → numbers_judged n status c fields room ≡ refused 7 0
-    unfolding numbers_judged fields_taken
-    numbers-many h k = simp (status_taken_lem status low high, count_typed c h, lt-leb fields most_fields k)
+    pub numbers-many : c ≤ 2 → most_of c < fields → numbers_judged n status c fields room ≡ refused 7 0
+    unfolding numbers_judged
+    numbers-many h k = simp (known, count_typed c h, count_over fields c h k)
 
-    pub numbers-above : c ≡ 0 → 127 < fields → fields ≤ most_fields → numbers_judged n status c fields room ≡ refused 7 0
-    unfolding numbers_judged fields_taken holds width_of among
-    numbers-above e h k = simp (status_taken_lem status low high, e, le-leb fields most_fields k, le-ltb fields 128 h)
-
-    module _ (front : ℕ) (typed : c ≤ 2) (few : fields ≤ most_fields) (held : c ≡ 0 → fields ≤ 127) (f : front ≡ 22 + width_of c) where
+    module _ (front : ℕ) (typed : c ≤ 2) (few : fields ≤ most_of c) (f : front ≡ 22 + width_of c) where
       numbers-rest : numbers_judged n status c fields room
           ≡ (guard (leb (front + n) limit) 8 0 >> (guard (leb (front + n) room) 14 0 >> fine (front + n)))
       unfolding numbers_judged
-      numbers-rest = simp (status_taken_lem status low high, count_typed c typed, count_held c fields typed few held, f)
+      numbers-rest = simp (known, count_typed c typed, count_held fields c typed few, f)
 
       pub numbers_long : limit - front < n → numbers_judged n status c fields room ≡ refused 8 0
       unfolding limit

@@ -1,10 +1,14 @@
 -- What the judges of an opening answer, over its definitions.
-use Rattle.std.specs.Prelude.{ℕ, ◌+◌, ◌&&◌, List, leb, length}
+use Rattle.std.specs.Prelude.{ℕ, ◌+◌, cond, ◌&&◌, List, eqb, leb, length}
 use Rattle.sim0mq.specs.Answer.{Answer, fine, ◌>>=◌, ◌>>◌, guard}
 use Rattle.sim0mq.specs.Codes.{width_of}
-use Rattle.sim0mq.specs.Header.{count_codes, among, status_taken, fields_taken}
+use Rattle.sim0mq.specs.Header.{count_codes, among, status_taken, most_fields, fields_taken}
 use Rattle.sim0mq.specs.Message.{limit}
 use Rattle.writing_opening.specs.Opening.{ids_from, holds}
+
+-- The most fields that a count of type c says: a message's, or what a signed byte holds.
+abbrev pub most_of : ℕ → ℕ
+most_of c = cond (eqb c 0) 127 most_fields
 
 -- The length of a header whose ids have n bytes, judged after them: status (6), count type (4), count (7), length (8),
 -- room (14).

@@ -9,7 +9,7 @@ use Rattle.sim0mq_numbers.specs.Bytes.{big_bytes}
 use Rattle.sim0mq_buffers.specs.Placing.{put_in}
 use Rattle.writing_puts.specs.Placing.{number_text}
 use Rattle.sim0mq.specs.Table.{placed}
-use Rattle.sim0mq.proofs.PlaceLaws.{placed_on}
+use Rattle.sim0mq.proofs.PlaceLaws.{placed_nothing, placed_length, placed_on}
 use Rattle.sim0mq_buffers.proofs.PlaceLaws.{placed_byte, put_fits, put_over}
 
 -- a text whose last byte is stored first
@@ -60,3 +60,6 @@ big_fits out at n x h = put_fits out at (big_bytes n x) (omega (arith, big_lengt
 
 pub big_over : (out : List ℕ) (at n x : ℕ) → length out < at + n → out ≡ put_in out at (big_bytes n x)
 big_over out at n x h = put_over out at (big_bytes n x) (omega (arith, big_length n x))
+
+-- what the check of the code uses
+pub ruleset puts = (placed_nothing, placed_length, put_over, big_length, placed_turn, big_fits, big_over)

@@ -8,6 +8,7 @@ ghost use Rattle.writing_puts.specs.Placing.{number_text};
 ghost use Rattle.writing_puts.specs.Signed.{bits_up_to};
 
 // The n bytes that x is written in, the first weighing most, in `out` from `at` on, where there is room for them.
+#[tactic(auto, using(crate::proofs::PlaceLaws::puts), unfolding(sim0mq_numbers::specs::Bytes::big_bytes))]
 pub fn put_big(out: &mut [u8], at: usize, n: usize, x: u64)
     ensures { out.new ≡ put_in out.old at (big_bytes n x) }
 {
@@ -17,16 +18,15 @@ pub fn put_big(out: &mut [u8], at: usize, n: usize, x: u64)
     if out.len() - at < n {
         return;
     }
-    let mut left = n;
     let mut rest = x;
-    while 0 < left {
-        left -= 1;
-        out[at + left] = (rest % 256) as u8;
-        rest = rest / 256;
+    for i in (0..n).rev() {
+        out[at + i] = (rest % 256) as u8;
+        rest /= 256;
     }
 }
 
 // A field that is one number of n bytes, its code and the number, in `out` from `at` on, where there is room for it.
+#[tactic(auto, using(crate::proofs::PlaceLaws::puts))]
 pub fn put_number(out: &mut [u8], at: usize, code: u8, n: usize, x: u64)
     ensures { out.new ≡ put_in out.old at (number_text code n x) }
 {
@@ -41,16 +41,13 @@ pub fn put_number(out: &mut [u8], at: usize, code: u8, n: usize, x: u64)
 }
 
 // The bits of z in a width whose largest number is `most`; 0 where that width has none for it.
+#[tactic(auto, unfolding(crate::specs::Signed::bits_up_to))]
 pub fn bits(z: i64, most: u64) -> u64
     ensures { result ≡ bits_up_to most z }
 {
-    if 0 <= z {
-        return z as u64;
+    if z < 0 {
+        most.saturating_sub(!z as u64)
+    } else {
+        z as u64
     }
-    let down = -1 - z;
-    let below = down as u64;
-    if most < below {
-        return 0;
-    }
-    most - below
 }

@@ -26,7 +26,7 @@ use Rattle.asking_scalars.proofs.BackLaws.{one_byte}
 use Rattle.writing_puts.specs.Placing.{number_text}
 use Rattle.writing_opening.specs.Opening.{holds, header_with, ids_from, fitting, header_given}
 use Rattle.writing.specs.Writing.{Opening, asks_for, count_code, header_text, opening}
-use Rattle.writing.specs.declared.CountType.TheVariants.{Stated}
+use Rattle.std.specs.Prelude.{Some}
 use Rattle.writing_returning.proofs.FrameLaws.{one_number, frame_text}
 use Rattle.writing_returning.proofs.IdLaws.{ids_complete}
 use Rattle.writing_returning.proofs.JoinLaws.{flat_append}
@@ -147,7 +147,7 @@ module _ (s : List ℕ) (bytes : (i : ℕ) → byte s i < 256) where
   module _ (n : ℕ) (h : HeaderParts) (i : IsHeader n h) (ids : List ℕ) (p q r : ℕ) (are : ids ≡ flat_map field_bytes (ids_of h))
       (five : Stands s p (field_bytes h.message)) (six : Stands s q (field_bytes h.status)) (seven : Stands s r (field_bytes h.count)) where
     abbrev asked : Opening
-    asked = asks_for ids (twos 64 (big s (p + 1) 8)) (byte s (q + 1)) n (Stated (byte s r))
+    asked = asks_for ids (twos 64 (big s (p + 1) 8)) (byte s (q + 1)) n (Some (byte s r))
 
     -- it writes the header's own bytes
     pub own-header : header_text asked ≡ header_bytes h

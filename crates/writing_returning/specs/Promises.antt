@@ -1,7 +1,7 @@
 -- What writing promises: what the writer finished reads back as it was given, and rewriting an accepted message gives
 -- the same bytes (demand 2); a refusal bears a listed number at its place, and changes nothing (demand 1).
 -- Each statement here is proved in proofs/Promises.antt.
-use Rattle.std.specs.Prelude.{ℕ, ◌+◌, ◌-◌, ◌<◌, ◌≤◌, ◌^◌, ◌≡◌, true, ◌⊎◌, T, ℤ, pos, negsuc, length, take, drop, get_or}
+use Rattle.std.specs.Prelude.{ℕ, ◌+◌, ◌-◌, ◌<◌, ◌≤◌, ◌^◌, ◌≡◌, true, ◌⊎◌, T, ℤ, pos, negsuc, length, take, drop, get_or, Some}
 use mathlib.Core.List.{List, [], ◌∷◌, ◌++◌, map, flat_map}
 use Rattle.std.specs.Float.{binary32, binary64}
 use Rattle.std.specs.Float.Ieee.{fits}
@@ -19,7 +19,6 @@ use Rattle.sim0mq_kinds.specs.declared.Scalar.TheVariants.{Byte, Short, Int, Lon
 use Rattle.writing_opening.specs.Opening.{buffer_after}
 use Rattle.writing.specs.Writing.{Opening, count_code, header_text, opening, after_opening, Given, encoded, scalar, adding, after_adding, closing, after_closing}
 use Rattle.writing_returning.specs.History.{Point, start, adds, closes, History, after_calls, Finished, bytes_of}
-use Rattle.writing.specs.declared.CountType.TheVariants.{Stated}
 use Rattle.writing.specs.declared.Writer.{Writer}
 
 -- A signed number of w bits; and a scalar whose numbers lie in their widths, as the types of the code see to.
@@ -90,7 +89,7 @@ own_opening s m =
       number = twos 64 (big s (frame_place m 5 + 1) 8);
       status = byte s (frame_place m 6 + 1);
       fields = length m.fields;
-      kind = Stated (byte s (frame_place m 7));
+      kind = Some (byte s (frame_place m 7));
     }
 
 -- Its fields, as encoded fields.

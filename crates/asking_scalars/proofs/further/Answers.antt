@@ -10,7 +10,7 @@ use Rattle.sim0mq.specs.Codes.{counts_of, marking_of, width_of}
 use Rattle.sim0mq_kinds.specs.declared.Scalar.{Scalar}
 use Rattle.sim0mq_kinds.specs.declared.Scalar.TheVariants.{Boolean, Char8, Char16}
 use Rattle.sim0mq_kinds.specs.Kinds.{with_float, with_double}
-use Rattle.asking_scalars.specs.Scalars.{scalar_of}
+use Rattle.asking_scalars.specs.Scalars.{scalar_of, valued}
 use Rattle.asking_scalars.proofs.ScalarCases.{number_is, by_code, mark_there, no_scalar}
 use Rattle.asking_scalars.proofs.further.Goals as goal
 
@@ -51,4 +51,4 @@ unfolding scalar_of counts_of width_of
 returns-then-f-eq26 c = ap (λ (v : Scalar). fine v) (c.double_with.ensures ∙ ap₂ with_double (number_is _ _ c.requires.0 26 8 _ c.if-f-eq26.true refl refl (omega arith) c.number-then-f-eq26.ensures.0) c.mark_at-then-f-eq26.ensures) ∙ by_code _ (seen c.args.f) 26 c.if-f-eq26.true
 
 pub returns : goal.returns
-returns c = no_scalar _ _ c.requires.1 c.if-f-eq6.false c.if-f-eq7.false c.if-f-eq8.false c.if-f-eq25.false c.if-f-eq26.false
+returns c = ap valued c.refuse.ensures ∙ no_scalar _ _ c.requires.1 c.if-f-eq6.false c.if-f-eq7.false c.if-f-eq8.false c.if-f-eq25.false c.if-f-eq26.false

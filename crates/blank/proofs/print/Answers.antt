@@ -6,5 +6,5 @@ use Rattle.blank.proofs.print.Goals as goal
 
 pub slice_bounds-write-end : goal.slice_bounds-write-end
 slice_bounds-write-end g c =
-    let fits = copy_fits _ _ _ (sym c.in-Accepted.ensures.answer) in
+    let fits = copy_fits _ _ _ (sym c.in-Ok.ensures.answer) in
     omega arith

@@ -7,15 +7,16 @@ use lib.Seq.{length-take-le}
 use Rattle.sim0mq.specs.Answer.{length_of}
 use Rattle.sim0mq.specs.Blank.{output_after}
 use Rattle.sim0mq.specs.Views.{judged}
+use Rattle.sim0mq.proofs.Passing.{handed_on}
 use Rattle.blanking.proofs.BlankCases.{copy-refused, copy-short, copy-blankable, copy-made}
 use Rattle.blanking.proofs.copied_by.Goals as goal
 
 pub returns-then-out-message : goal.returns-then-out-message
 unfolding output_after
 returns-then-out-message c =
-    let said = sym c.payload.ensures.answer.0 ∙ ap judged c.in-Accepted.is in
+    let said = sym c.in_ok-_steps.ensures.answer.0 in
     let short = copy-short (length c.args.out.now) _ _ _ _ c.requires _ said c.if-out-message.true in
-    record { answer = c.refuse.ensures ∙ sym (ap length_of short); copied = sym (ap (output_after c.args.out.now) short) }
+    record { answer = ap judged c.refuse.ensures ∙ sym (ap length_of short); copied = sym (ap (output_after c.args.out.now) short) }
 
 pub slice_bounds-put-end : goal.slice_bounds-put-end
 slice_bounds-put-end c =
@@ -24,18 +25,18 @@ slice_bounds-put-end c =
 
 pub blank_fields-requires : goal.blank_fields-requires
 blank_fields-requires c =
-    let said = sym c.payload.ensures.answer.0 ∙ ap judged c.in-Accepted.is in
+    let said = sym c.in_ok-_steps.ensures.answer.0 in
     copy-blankable 0 _ _ _ _ c.requires _ said _ _ _ refl c.payload.ensures.kept (omega arith)
 
-pub returns-in-Refused : goal.returns-in-Refused
+pub returns-in_err-_steps : goal.returns-in_err-_steps
 unfolding output_after
-returns-in-Refused c =
-    let said = sym c.payload.ensures.answer.0 ∙ ap judged c.in-Refused.is in
+returns-in_err-_steps c =
+    let said = sym c.in_err-_steps.ensures.answer.0 in
     let stopped = copy-refused (length c.args.out.now) _ _ _ _ c.requires _ _ said in
-    record { answer = sym (ap length_of stopped); copied = sym (ap (output_after c.args.out.now) stopped) }
+    record { answer = handed_on _ _ _ c.from_residual.ensures.1 ∙ sym (ap length_of stopped); copied = sym (ap (output_after c.args.out.now) stopped) }
 
-pub returns-else-out-message : goal.returns-else-out-message
-returns-else-out-message c =
-    let said = sym c.payload.ensures.answer.0 ∙ ap judged c.in-Accepted.is in
+pub returns : goal.returns
+returns c =
+    let said = sym c.in_ok-_steps.ensures.answer.0 in
     let made = copy-made _ _ _ _ _ c.requires _ said _ _ _ refl (omega arith) c.put.ensures c.blank_fields.ensures in
     record { answer = made.0; copied = made.1 }

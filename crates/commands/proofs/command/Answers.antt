@@ -1,16 +1,18 @@
 -- With a table for twelve rows, or, where 14 says that they are more, with one for all: the judge answers as with none.
-use mathlib.Core.Path.{sym, ap, ◌∙◌}
+use mathlib.Core.Path.{◌∙◌}
+use Rattle.sim0mq.specs.declared.Reason.TheVariants.{TooShort}
 use Rattle.sim0mq.specs.Table.{row_size}
-use Rattle.commands.specs.Names.{command_as}
+use Rattle.commands.proofs.ReasonLaws.{same_reason}
 use Rattle.commands.proofs.ReadLaws.{by_found, by_refused, by_all}
 use Rattle.commands.proofs.command.Goals as goal
 
-pub returns-then-r-ne14 : goal.returns-then-r-ne14
-returns-then-r-ne14 c = by_refused _ _ _ _ (sym (ap command_as c.in-Refused.is) ∙ c.command_by.ensures) c.if-r-ne14.true
+pub returns-in-Ok : goal.returns-in-Ok
+returns-in-Ok c = by_found _ _ _ c.in-Ok.ensures
 
-pub returns-in-Is : goal.returns-in-Is
-returns-in-Is c = by_found _ _ _ (sym (ap command_as c.in-Is.is) ∙ c.command_by.ensures)
-
-pub returns-else-r-ne14 : goal.returns-else-r-ne14
+pub returns-in-TooShort : goal.returns-in-TooShort
 unfolding row_size
-returns-else-r-ne14 c = c.command_by-in-Refused.ensures ∙ by_all _
+returns-in-TooShort c = c.command_by-in-TooShort.ensures ∙ by_all _
+
+pub returns-in_default : goal.returns-in_default
+returns-in_default c =
+    by_refused _ _ _ _ c.in-Err.ensures (λ e. c.in_default.not-TooShort (same_reason _ TooShort e))

@@ -10,20 +10,20 @@ use Rattle.ledger.proofs.muster_framed.Goals as goal
 pub enter-requires : goal.enter-requires
 enter-requires c =
     ordering_can _ _ _ _ _ _ _ _
-    (sym c.order.ensures ∙ ap ordered c.in-Granted.is)
+    (sym c.order.ensures ∙ ap ordered c.in-Ok.is)
 
-pub returns-in-Refused : goal.returns-in-Refused
-returns-in-Refused c =
+pub returns-in-Err : goal.returns-in-Err
+returns-in-Err c =
     let a = c.args in
     c.refused.ensures
     ∙ ap (after_mustering a.ledger a.book)
     (framed_stops _ _ _ _ _ _ _ _ (place_shown a.frames 4) (place_shown a.frames 6) (place_shown a.frames 7) _ _
-    (sym c.order.ensures ∙ ap ordered c.in-Refused.is))
+    (sym c.order.ensures ∙ ap ordered c.in-Err.is))
 
-pub returns-in-Granted : goal.returns-in-Granted
-returns-in-Granted c =
+pub returns-in-Ok : goal.returns-in-Ok
+returns-in-Ok c =
     let a = c.args in
     c.enter.ensures
     ∙ ap (after_mustering a.ledger a.book)
     (framed_goes _ _ _ _ _ _ _ _ (place_shown a.frames 4) (place_shown a.frames 6) (place_shown a.frames 7) _
-    (sym c.order.ensures ∙ ap ordered c.in-Granted.is))
+    (sym c.order.ensures ∙ ap ordered c.in-Ok.is))

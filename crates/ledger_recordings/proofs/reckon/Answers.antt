@@ -7,9 +7,9 @@ use Rattle.ledger_recordings.proofs.ReckonLaws.{reckon_refused}
 use Rattle.ledger_recordings.proofs.reckon.Goals as goal
 
 pub muster_each-requires : goal.muster_each-requires
-muster_each-requires c = index_stated _ c.index.ensures c.in-Found.is
+muster_each-requires c = index_stated _ c.in-Some.ensures
 
-pub returns-in-Wrong : goal.returns-in-Wrong
-returns-in-Wrong c =
-    let wrong = open_wrong _ c.index.ensures c.in-Wrong.is in
+pub returns-in_default : goal.returns-in_default
+returns-in_default c =
+    let wrong = open_wrong _ c.in_default.ensures in
     c.refused.ensures ∙ ap reckoned_as (sym (reckon_refused _ _ _ wrong))

@@ -5,14 +5,14 @@ use Rattle.programs_listing.specs.Text.{line_text}
 use Rattle.programs_listing.proofs.PutCases.{put_told}
 use Rattle.programs_listing.proofs.first_line.Goals as goal
 
-pub returns-in-Accepted : goal.returns-in-Accepted
-returns-in-Accepted c =
-    let e = ap line_text c.in-Accepted.is in
-    let told = put_told _ _ _ _ _ _ e c.accepted-end.ensures c.whole.ensures.value in
+pub returns-in-Ok : goal.returns-in-Ok
+returns-in-Ok c =
+    let e = ap line_text c.in-Ok.is in
+    let told = put_told _ _ _ _ _ _ e c.accepted.ensures c.whole.ensures.value in
     record { counts = c.whole.ensures.prefix_len; answer = told.0; text = told.1 }
 
-pub returns-in-Refused : goal.returns-in-Refused
-returns-in-Refused c =
-    let e = ap line_text c.in-Refused.is in
-    let told = put_told _ _ _ _ _ _ e c.refused-end.ensures c.whole-in-Refused.ensures.value in
-    record { counts = c.whole-in-Refused.ensures.prefix_len; answer = told.0; text = told.1 }
+pub returns-in-Err : goal.returns-in-Err
+returns-in-Err c =
+    let e = ap line_text c.in-Err.is in
+    let told = put_told _ _ _ _ _ _ e c.refused.ensures c.whole-in-Err.ensures.value in
+    record { counts = c.whole-in-Err.ensures.prefix_len; answer = told.0; text = told.1 }

@@ -1,5 +1,7 @@
 -- programs_listing::refused meets its contract: each call puts the next piece of the line from where the one before
 -- ended. Assumes nothing.
+use mathlib.Core.Path.{◌≡◌, sym, ◌∙◌}
+use Rattle.sim0mq.specs.Views.{number_of}
 use Rattle.programs_listing.specs.Text.{refused_text}
 use Rattle.programs_listing.proofs.PutCases.{put_none, put_then}
 use Rattle.programs_listing.proofs.refused.Goals as goal
@@ -7,9 +9,5 @@ use Rattle.programs_listing.proofs.refused.Goals as goal
 pub returns : goal.returns
 unfolding refused_text
 returns c =
-    put_then _ _ _ _ _ _ _ c.put-at.ensures.value c.put-at.ensures.out_after
-    (put_then _ _ _ _ _ _ _ c.number-at.ensures.value c.number-at.ensures.out_after
-    (put_then _ _ _ _ _ _ _ c.put-at-2.ensures.value c.put-at-2.ensures.out_after
-    (put_then _ _ _ _ _ _ _ c.number-at-2.ensures.value c.number-at-2.ensures.out_after
-    (put_then _ _ _ _ _ _ _ c.put.ensures.value c.put.ensures.out_after
-    (put_none _)))))
+    let e : c.from.result ≡ number_of c.args.refusal.reason = c.from.ensures ∙ c.number.ensures in
+    rw (sym e) (search (put_none, put_then) depth 40)

@@ -7,7 +7,6 @@ use mathlib.Core.Path.{◌≡◌, refl, ◌∙◌, ap}
 use mathlib.Core.List.{List, [], ◌∷◌}
 use lib.ListN.{length, get_or, drop_of_length-le}
 use lib.Seq.{drop-cons}
-use borrow.Author.Rules.{rules}
 use Rattle.programs_pieces.specs.Put.{place_after, with_text}
 use Rattle.programs_pieces.specs.Decimal.{decimal}
 use Rattle.programs_listing.specs.Put.{buffer, put_all}
@@ -31,19 +30,16 @@ ended : (numbers : List ℕ) (j : ℕ) → length numbers ≤ j → ascii "\n" �
 unfolding numbers_text
 ended numbers j h = rw (drop_of_length-le numbers h)
 
-pub loop-j-preserved : goal.loop-j-preserved
-loop-j-preserved c =
-    let a = c.args in
-    let t =
-    turn a.numbers.now c.loop-j.j c.wide.result _ _ _ _ _ _ (omega arith) c.wide.ensures
-    c.put-at.ensures.value c.put-at.ensures.out_after c.number-at-in-loop-j.ensures.value c.number-at-in-loop-j.ensures.out_after in
-    record { within = search rules; same_length = search rules; rest = t ∙ c.loop-j.invariant.rest }
+pub loop-x-preserved : goal.loop-x-preserved
+loop-x-preserved c =
+    turn c.args.numbers.now c.loop-x.x-index c.from.result _ _ _ _ _ _ (omega arith) c.from.ensures
+    c.put-at.ensures.value c.put-at.ensures.out_after c.number-at-in-loop-x.ensures.value c.number-at-in-loop-x.ensures.out_after
+    ∙ c.loop-x.invariant
 
 pub returns : goal.returns
 unfolding row_text
 returns c =
-    let a = c.args in
-    let e = ended a.numbers.now c.loop-j.j (omega arith) in
+    let e = ended c.args.numbers.now c.loop-x.x-index (omega arith) in
     put_then _ _ _ _ _ _ _ c.number-at.ensures.value c.number-at.ensures.out_after
     (put_then _ _ _ _ _ _ _ c.put.ensures.value c.put.ensures.out_after (put_none _)
-    ∙ (ap (put_all (buffer c.loop-j.out c.loop-j.at)) e ∙ c.loop-j.invariant.rest))
+    ∙ (ap (put_all (buffer c.loop-x.out c.loop-x.at)) e ∙ c.loop-x.invariant))

@@ -34,13 +34,9 @@ loop-i-init c = search rules
 
 pub loop-i-preserved : goal.loop-i-preserved
 unfolding row_size
-loop-i-preserved c =
-    let a = c.args in
-    let t = turn _ _ _ a.table.now _ c.loop-i.i c.loop-i.invariant.put c.row-at.ensures (numbers_of _ c.loop-i.i) in
-    record { within = search rules; enough = search rules; same_length = search rules; put = t }
+loop-i-preserved c = turn _ _ _ c.args.table.now _ c.loop-i.i c.loop-i.invariant c.row-at.ensures (numbers_of _ c.loop-i.i)
 
 pub returns : goal.returns
 returns c =
-    let l = c.loop-i in
-    let e : l.i ≡ c.args.fields = omega arith in
-    l.invariant.put ∙ ap (put_all _) (ap (rows_text _) e)
+    let e : c.loop-i.i ≡ c.args.fields = omega arith in
+    c.loop-i.invariant ∙ ap (put_all _) (ap (rows_text _) e)

@@ -1,7 +1,9 @@
 -- What stands before the payload and what its reader says are the answer; the rows are stored only where both accept,
 -- and are those of the message.
 use mathlib.Core.Path.{refl, sym, ap, ◌∙◌}
-use Rattle.reading_header.specs.declared.Answer.{Answer}
+use Rattle.sim0mq.specs.Views.{said_as}
+use Rattle.reading_header.specs.declared.End.{End}
+use Rattle.reading_header.specs.Frames.{Told}
 use Rattle.reading.specs.Answers.{answer_of}
 use Rattle.reading_front.proofs.FrontCases.{told_refused, told_accepted, open-within}
 use Rattle.reading.proofs.AnswerCases.{closed_answer, closed_table, open-fillable, open-answer, open-table, below_most}
@@ -9,20 +11,20 @@ use Rattle.reading.proofs.read.Goals as goal
 
 pub fill-filling-requires : goal.fill-filling-requires
 fill-filling-requires c =
-    let h = told_accepted _ _ _ _ (sym (ap (λ (x : Answer). x.said) c.opened-o.ensures) ∙ c.in-Accepted.is) in
+    let h = told_accepted _ _ _ _ (sym (ap (λ (x : Told). x.said) c.opened-o.ensures) ∙ ap (said_as (λ (e : End). e)) c.in-Ok.is) in
     open-fillable _ _ h.0 h.1 _ _ h.2 h.3 _ refl
 
 pub told_by-requires : goal.told_by-requires
 told_by-requires c =
-    let h = told_accepted _ _ _ _ (sym (ap (λ (x : Answer). x.said) c.opened-o.ensures) ∙ c.in-Accepted.is) in
+    let h = told_accepted _ _ _ _ (sym (ap (λ (x : Told). x.said) c.opened-o.ensures) ∙ ap (said_as (λ (e : End). e)) c.in-Ok.is) in
     below_most _ c.fill-filling.result (open-within _ _ h.0 h.1 _ _ h.2 h.3).0 c.fill-filling.ensures.answer.1
 
-pub returns-in-Refused : goal.returns-in-Refused
-returns-in-Refused c =
-    let stopped = told_refused _ _ _ _ (sym (ap (λ (x : Answer). x.said) c.opened-o.ensures) ∙ c.in-Refused.is) in
-    record { answer = c.refuse.ensures ∙ closed_answer _ _ _ _ stopped; stored = closed_table _ _ _ _ _ stopped }
+pub returns-in-Err : goal.returns-in-Err
+returns-in-Err c =
+    let stopped = told_refused _ _ _ _ (sym (ap (λ (x : Told). x.said) c.opened-o.ensures) ∙ ap (said_as (λ (e : End). e)) c.in-Err.is) in
+    record { answer = c.refused.ensures ∙ closed_answer _ _ _ _ stopped; stored = closed_table _ _ _ _ _ stopped }
 
-pub returns-in-Accepted : goal.returns-in-Accepted
-returns-in-Accepted c =
-    let h = told_accepted _ _ _ _ (sym (ap (λ (x : Answer). x.said) c.opened-o.ensures) ∙ c.in-Accepted.is) in
-    let frames = ap (λ (x : Answer). x.frames) c.opened-o.ensures ∙ h.4 in record { answer = c.told_by.ensures ∙ ap (answer_of _ _ _) c.fill-filling.ensures.answer.0 ∙ open-answer _ _ h.0 h.1 _ _ h.2 h.3 _ frames; stored = c.fill-filling.ensures.stored ∙ open-table _ _ h.0 h.1 _ _ h.2 h.3 _ }
+pub returns-in-Ok : goal.returns-in-Ok
+returns-in-Ok c =
+    let h = told_accepted _ _ _ _ (sym (ap (λ (x : Told). x.said) c.opened-o.ensures) ∙ ap (said_as (λ (e : End). e)) c.in-Ok.is) in
+    let frames = ap (λ (x : Told). x.frames) c.opened-o.ensures ∙ h.4 in record { answer = c.told_by.ensures ∙ ap (answer_of _ _ _) c.fill-filling.ensures.answer.0 ∙ open-answer _ _ h.0 h.1 _ _ h.2 h.3 _ frames; stored = c.fill-filling.ensures.stored ∙ open-table _ _ h.0 h.1 _ _ h.2 h.3 _ }

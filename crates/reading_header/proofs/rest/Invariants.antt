@@ -1,4 +1,4 @@
-use Prim.Native.Nat.{◌-◌, ◌≤◌}
+use Prim.Native.Nat.{◌-◌}
 use mathlib.Core.Path.{◌≡◌}
 use mathlib.Core.List.{map}
 use lib.ListN.{length, take}
@@ -6,7 +6,4 @@ use Rattle.reading_header.specs.Frames.{header_from, header_rest, shown}
 use Rattle.reading_header.proofs.rest.Given as goal
 
 abbrev pub invariant-loop-k : goal.invariant-loop-k
-invariant-loop-k l = (header_rest l.s l.start ≡ header_from l.s (7 - l.k) l.k (map shown (take l.k l.fs)) l.at) × (l.k ≤ 7) × (length l.fs ≡ 8)
-
-abbrev pub decreases-loop-k : goal.decreases-loop-k
-decreases-loop-k l = 7 - l.k
+invariant-loop-k l = (header_rest l.s l.start ≡ header_from l.s (7 - l.k) l.k (map shown (take l.k l.fs)) l.at) × (length l.fs ≡ 8)

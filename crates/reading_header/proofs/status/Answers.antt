@@ -2,6 +2,7 @@
 use native.Mathlib.Omega.{arith}
 use mathlib.Core.Path.{sym, ap, ◌∙◌}
 use Rattle.sim0mq.specs.Header.{status_codes}
+use Rattle.sim0mq.proofs.Passing.{handed_on}
 use Rattle.sim0mq.proofs.Rows.{status_scalar, status_not_boolean}
 use Rattle.sim0mq.proofs.HeaderLaws.{frame_scalar}
 use Rattle.reading_fields.specs.Items.{fielded}
@@ -11,17 +12,18 @@ use Rattle.reading_header.proofs.status.Goals as goal
 pub typed-requires : goal.typed-requires
 typed-requires c = status_not_boolean
 
-pub bounds-s-first : goal.bounds-s-first
-bounds-s-first c = (frame_scalar _ status_codes _ _ status_scalar (sym c.typed.ensures ∙ ap fielded c.in-Accepted.is)).0
+pub bounds-s-f : goal.bounds-s-f
+bounds-s-f c = (frame_scalar _ status_codes _ _ status_scalar (sym c.in_ok-f.ensures)).0
+
+pub returns-in_err-f : goal.returns-in_err-f
+returns-in_err-f c = handed_on _ _ _ c.from_residual.ensures.1 ∙ sym (status_stop _ _ _ _ (sym c.in_err-f.ensures))
 
 pub returns-then-x-lt-NEW : goal.returns-then-x-lt-NEW
-returns-then-x-lt-NEW c = sym (status-low _ _ _ (sym c.typed.ensures ∙ ap fielded c.in-Accepted.is) c.if-x-lt-NEW.true)
+returns-then-x-lt-NEW c = ap fielded c.refuse.ensures ∙ sym (status-low _ _ _ (sym c.in_ok-f.ensures) c.if-x-lt-NEW.true)
 
 pub returns-then-x-gt-DELETE : goal.returns-then-x-gt-DELETE
-returns-then-x-gt-DELETE c = sym (status-high _ _ _ (sym c.typed.ensures ∙ ap fielded c.in-Accepted.is) (omega arith) c.if-x-gt-DELETE.true)
+returns-then-x-gt-DELETE c =
+    ap fielded c.refuse-then-x-gt-DELETE.ensures ∙ sym (status-high _ _ _ (sym c.in_ok-f.ensures) (omega arith) c.if-x-gt-DELETE.true)
 
-pub returns-in-Refused : goal.returns-in-Refused
-returns-in-Refused c = sym (status_stop _ _ _ _ (sym c.typed.ensures ∙ ap fielded c.in-Refused.is))
-
-pub returns-else-x-gt-DELETE : goal.returns-else-x-gt-DELETE
-returns-else-x-gt-DELETE c = sym (status-fine _ _ _ (sym c.typed.ensures ∙ ap fielded c.in-Accepted.is) (omega arith) (omega arith))
+pub returns : goal.returns
+returns c = sym (status-fine _ _ _ (sym c.in_ok-f.ensures) (omega arith) (omega arith))

@@ -10,5 +10,5 @@ heads c v m p = record { code = c; values = v; marked = m; next = p }
 
 pub returns : goal.returns
 returns c =
-    let marks = c.mark_count-marked.ensures ∙ ap (λ (m : ℕ). mark_count m c.args.columns) c.marking.ensures in
+    let marks = c.mark_count.ensures ∙ ap (λ (m : ℕ). mark_count m c.args.columns) c.marking.ensures in
     ap (λ (m : ℕ). fine (heads c.args.code c.args.values m c.args.next)) marks

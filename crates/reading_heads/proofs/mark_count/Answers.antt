@@ -1,12 +1,18 @@
--- The markings 0 and 1 are none and one mark, and any other is one per column.
-use Rattle.reading_heads.proofs.HeadCases.{no_marks, one_mark, column_marks}
+-- Each marking has its number, by which the definition counts.
+use mathlib.Core.Path.{sym, ap}
+use Rattle.sim0mq.specs.Field.{mark_count}
+use Rattle.sim0mq_tables.specs.declared.Marked.{Marked}
+use Rattle.sim0mq_tables.specs.Markings.{marking_number}
 use Rattle.reading_heads.proofs.mark_count.Goals as goal
 
-pub returns-then-m-eq0 : goal.returns-then-m-eq0
-returns-then-m-eq0 c = no_marks _ _ c.if-m-eq0.true
+pub returns-in-None : goal.returns-in-None
+unfolding mark_count
+returns-in-None c = sym (ap (λ (m : Marked). mark_count (marking_number m) c.args.columns) c.in-None.is)
 
-pub returns-then-m-eq1 : goal.returns-then-m-eq1
-returns-then-m-eq1 c = one_mark _ _ c.if-m-eq1.true
+pub returns-in-One : goal.returns-in-One
+unfolding mark_count
+returns-in-One c = sym (ap (λ (m : Marked). mark_count (marking_number m) c.args.columns) c.in-One.is)
 
-pub returns : goal.returns
-returns c = column_marks _ _ c.if-m-eq0.false c.if-m-eq1.false
+pub returns-in-PerColumn : goal.returns-in-PerColumn
+unfolding mark_count
+returns-in-PerColumn c = sym (ap (λ (m : Marked). mark_count (marking_number m) c.args.columns) c.in-PerColumn.is)

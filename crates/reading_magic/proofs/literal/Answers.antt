@@ -3,26 +3,27 @@ use mathlib.Core.Path.{ap, ◌≡◌, refl, sym, ◌∙◌}
 use Rattle.sim0mq.specs.Answer.{fine}
 use native.Mathlib.Omega.{arith}
 use Rattle.sim0mq.specs.Header.{magic_bytes}
+use Rattle.sim0mq.specs.Views.{judged}
 use Rattle.reading_magic.proofs.MagicCases.{frame_begins, literal_short, literal_wrong, literal_next, literal_done}
 use Rattle.reading_magic.proofs.literal.Goals as goal
 
 pub loop-i-init : goal.loop-i-init
-loop-i-init c = (refl, omega arith)
+loop-i-init c = refl
 
 pub returns-then-s-i : goal.returns-then-s-i
-returns-then-s-i c = c.refuse.ensures ∙ sym (c.loop-i.invariant.0 ∙ literal_short _ magic_bytes c.loop-i.i (omega arith) (omega arith))
+returns-then-s-i c = ap judged c.refuse.ensures ∙ sym (c.loop-i.invariant ∙ literal_short _ magic_bytes c.loop-i.i (omega arith) (omega arith))
+
+pub returns-then-s-i-2 : goal.returns-then-s-i-2
+returns-then-s-i-2 c =
+    ap judged c.refuse-then-s-i-2.ensures
+    ∙ sym (c.loop-i.invariant ∙ literal_wrong _ magic_bytes c.loop-i.i (omega arith) (omega arith)
+    (λ e. c.if-s-i-2.true (e ∙ sym (frame_begins c.loop-i.i (omega arith)))))
 
 pub loop-i-preserved : goal.loop-i-preserved
-loop-i-preserved c = (
-  c.loop-i.invariant.0 ∙ literal_next _ magic_bytes c.loop-i.i (omega arith) (omega arith)
-      (c.if-s-i-2.true ∙ frame_begins c.loop-i.i (omega arith)),
-  omega arith,
-)
-
-pub returns-else-s-i-2 : goal.returns-else-s-i-2
-returns-else-s-i-2 c = c.refuse-else-s-i-2.ensures ∙ sym (c.loop-i.invariant.0 ∙ literal_wrong _ magic_bytes c.loop-i.i (omega arith) (omega arith)
-    (λ e. c.if-s-i-2.false (e ∙ sym (frame_begins c.loop-i.i (omega arith)))))
+loop-i-preserved c =
+    c.loop-i.invariant ∙ literal_next _ magic_bytes c.loop-i.i (omega arith) (omega arith)
+    (c.if-s-i-2.false ∙ frame_begins c.loop-i.i (omega arith))
 
 pub returns : goal.returns
 returns c =
-    let e : 8 ≡ c.loop-i.i = omega arith in ap fine e ∙ sym (c.loop-i.invariant.0 ∙ literal_done _ magic_bytes c.loop-i.i (omega arith))
+    let e : 8 ≡ c.loop-i.i = omega arith in ap fine e ∙ sym (c.loop-i.invariant ∙ literal_done _ magic_bytes c.loop-i.i (omega arith))

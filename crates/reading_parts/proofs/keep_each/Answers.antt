@@ -11,23 +11,23 @@ overflow_add-step c = let narrow = c.requires.1.size in omega arith
 
 pub overflow_mul-p : goal.overflow_mul-p
 overflow_mul-p c =
-    let skip = c.skipped-j.ensures in
+    let skip = c.skipped-first.ensures in
     let reach = run_reach _ _ c.args.run.fields _ _ skip.0 c.requires.1.ends in
     let fits = c.requires.1.fits in
     omega arith
 
 pub overflow_add-p : goal.overflow_add-p
 overflow_add-p c =
-    let skip = c.skipped-j.ensures in
+    let skip = c.skipped-first.ensures in
     let reach = run_reach _ _ c.args.run.fields _ _ skip.0 c.requires.1.ends in
     let fits = c.requires.1.fits in
     omega arith
 
 pub loop-j-init : goal.loop-j-init
 loop-j-init c =
-    let skip = c.skipped-j.ensures in
+    let skip = c.skipped-first.ensures in
     let start = run_start _ _ _ _ _ _ c.args.run.fields _ _ _ _ skip.0 skip.1 c.requires.1.ends in
-    (start.0, refl, start.1, skip.0)
+    (start.0, refl, start.1)
 
 pub overflow_add-i : goal.overflow_add-i
 overflow_add-i c = let counted = c.requires.1.counted in omega arith
@@ -52,10 +52,6 @@ overflow_add-p-in-loop-j c =
     let next = (run_next _ c.args.run.fields _ _ _ c.loop-j-test.true c.loop-j.invariant.2).1 in
     omega arith
 
-pub overflow_add-j : goal.overflow_add-j
-overflow_add-j c =
-    let counted = c.requires.1.counted in omega arith
-
 pub loop-j-preserved : goal.loop-j-preserved
 loop-j-preserved c =
     let asked = c.args in
@@ -63,7 +59,7 @@ loop-j-preserved c =
     let more = c.loop-j-test.true in
     let next = run_next _ asked.run.fields _ _ _ more inv.2 in
     let kept = run_kept _ _ _ _ _ _ asked.i _ _ _ _ _ _ inv.0 more c.field_at.ensures c.keep.ensures in
-    (kept.0, kept.1 ∙ inv.1, next.0, omega arith)
+    (kept.0, kept.1 ∙ inv.1, next.0)
 
 pub returns : goal.returns
 returns c =

@@ -1,4 +1,4 @@
-use Prim.Native.Nat.{◌+◌, ◌-◌, ◌≤◌}
+use Prim.Native.Nat.{◌+◌, ◌-◌}
 use mathlib.Core.Path.{◌≡◌}
 use mathlib.Core.List.{map}
 use lib.ListN.{length}
@@ -12,7 +12,3 @@ invariant-loop-j l = (kept_all l.many l.k l.i (map (moved l.base) (alike_fields 
     ≡ kept_all l.many l.k (l.i + l.j) (map (moved l.base) (alike_fields l.run.code l.run.size (l.run.fields - l.j) l.p)) l.kept)
     × (length l.kept ≡ length l.initial.kept)
     × (far l.run.size (l.run.fields - l.j) l.p ≡ l.run.end)
-    × (l.j ≤ l.run.fields)
-
-abbrev pub decreases-loop-j : goal.decreases-loop-j
-decreases-loop-j l = l.run.fields - l.j

@@ -3,9 +3,10 @@
 -- No step lacks a byte, so there are no more steps than bytes.
 use native.Mathlib.Omega.{arith}
 use Prim.Native.Nat.{ℕ, ◌+◌, ◌-◌, ◌<◌}
-use mathlib.Core.Path.{refl, sym, ap, ◌∙◌, subst}
+use mathlib.Core.Path.{◌≡◌, refl, sym, ap, ◌∙◌, subst}
 use lib.ListN.{length}
 use Rattle.sim0mq.specs.Answer.{fine}
+use Rattle.sim0mq.specs.Mark.{marks}
 use Rattle.sim0mq.specs.Table.{row_size}
 use Rattle.sim0mq.specs.Views.{judged}
 use Rattle.reading_heads.specs.Heads.{headed}
@@ -18,7 +19,7 @@ use Rattle.reading_parts.proofs.RunCases.{run_goes, run_far, steps_run, kept_run
 use Rattle.reading_parts.proofs.part_from.Goals as goal
 
 pub returns-then-s-from : goal.returns-then-s-from
-returns-then-s-from c = record { answer = (sym (rest_short _ _ _ c.if-s-from.true), tt); kept = kept_short _ _ _ _ _ _ c.if-s-from.true }
+returns-then-s-from c = record { answer = rw c.refuse.ensures (sym (rest_short _ _ _ c.if-s-from.true), tt); kept = kept_short _ _ _ _ _ _ c.if-s-from.true }
 
 pub fields-init : goal.fields-init
 fields-init c =
@@ -73,34 +74,36 @@ fields-preserved-then-run-gt0 c =
     let kept = kept_run _ _ _ _ _ _ fields left (left - fields) _ (n - left) (n - (left - fields)) _ _ _ _ inv.3 run.stand run.ends (omega arith) (omega arith) c.keep_run.ensures in
     (inv.0 ∙ steps_run _ 0 _ _ fields left (left - fields) _ _ _ _ run.stand run.ends (omega arith) refl, omega arith, run.within inv.2, kept.0, omega arith, kept.1 ∙ inv.5, inv.6)
 
-pub loop-marked-init : goal.loop-marked-init
-loop-marked-init c =
-    let g = head_goes _ _ _ (sym c.head.ensures ∙ ap headed c.in-Accepted.is) in
+pub loop-init : goal.loop-init
+loop-init c =
+    let h = c.in-Ok.h in
+    let g = head_goes _ _ _ (sym c.head.ensures ∙ ap headed c.in-Ok.is) in
     let l = g.0 in
     let m = g.1 in
-    (refl, omega arith, omega arith)
+    let all : h.marked ≡ h.marked - 0 = omega arith in
+    (ap (λ (k : ℕ). marks c.args.s.now k h.next) all, omega arith, omega arith)
 
-pub loop-marked-preserved : goal.loop-marked-preserved
-loop-marked-preserved c =
+pub loop-preserved : goal.loop-preserved
+loop-preserved c =
     let by_Last = mark_by_last _ _ _ c.lasts-last.ensures in
-    let taken = sym by_Last ∙ sym c.mark_by.ensures ∙ ap judged c.in-Accepted-mark_by.is in
+    let taken = sym by_Last ∙ sym c.mark_by.ensures ∙ ap judged c.in-Ok-mark_by.is in
     let g = mark_goes _ _ _ taken in
     let l = g.0 in
     let m = g.1 in
-    (c.loop-marked.invariant.0 ∙ marks_more _ _ _ _ _ (omega arith) taken, omega arith, omega arith)
+    (c.loop.invariant.0 ∙ marks_more _ _ _ _ _ (omega arith) taken, omega arith, omega arith)
 
 pub overflow_sub-e : goal.overflow_sub-e
 overflow_sub-e c =
-    let valued = sym c.values.ensures ∙ ap judged c.in-Accepted-values.is in
+    let valued = sym c.values.ensures ∙ ap judged c.in-Ok-values.is in
     let g = (values_goes _ _ _ _ _ valued).0 in
     omega arith
 
 pub keep-requires : goal.keep-requires
 unfolding row_size
 keep-requires c =
-    let headed-as = sym c.head.ensures ∙ ap headed c.in-Accepted.is in
-    let marked = c.loop-marked.invariant.0 ∙ marks_done _ _ _ (omega arith) in
-    let valued = sym c.values.ensures ∙ ap judged c.in-Accepted-values.is in
+    let headed-as = sym c.head.ensures ∙ ap headed c.in-Ok.is in
+    let marked = c.loop.invariant.0 ∙ marks_done _ _ _ (omega arith) in
+    let valued = sym c.values.ensures ∙ ap judged c.in-Ok-values.is in
     let accepted = field-taken _ _ _ headed-as _ marked _ valued in
     let args = c.args in
     let many = c.rows-many.ensures in
@@ -108,22 +111,22 @@ keep-requires c =
     let room = rows_room (args.base + length args.s.now) (length args.kept.now) in
     (omega arith, λ some. field_small _ _ _ _ (rows_some _ _ (subst (λ (m : ℕ). 0 < m) many some)) (accepted ∙ ap fine (sym c.found.ensures)))
 
-pub overflow_sub-left-in-Accepted : goal.overflow_sub-left-in-Accepted
-overflow_sub-left-in-Accepted c =
+pub overflow_sub-left-in-Ok : goal.overflow_sub-left-in-Ok
+overflow_sub-left-in-Ok c =
     let some = c.if-left-eq0.false in
     omega arith
 
-pub overflow_add-steps-in-Accepted : goal.overflow_add-steps-in-Accepted
-overflow_add-steps-in-Accepted c =
-    let counted = c.loop-marked.invariant.1 in
-    let within = c.loop-marked.invariant.2 in
+pub overflow_add-steps-in-Ok : goal.overflow_add-steps-in-Ok
+overflow_add-steps-in-Ok c =
+    let counted = c.loop.invariant.1 in
+    let within = c.loop.invariant.2 in
     let fits = c.fields.invariant.6 in
     omega arith
 
-pub overflow_add-steps-in-Accepted-2 : goal.overflow_add-steps-in-Accepted-2
-overflow_add-steps-in-Accepted-2 c =
-    let counted = c.loop-marked.invariant.1 in
-    let within = c.loop-marked.invariant.2 in
+pub overflow_add-steps-in-Ok-2 : goal.overflow_add-steps-in-Ok-2
+overflow_add-steps-in-Ok-2 c =
+    let counted = c.loop.invariant.1 in
+    let within = c.loop.invariant.2 in
     let fits = c.fields.invariant.6 in
     omega arith
 
@@ -134,16 +137,16 @@ fields-smaller c =
 
 pub fields-preserved : goal.fields-preserved
 fields-preserved c =
-    let headed-as = sym c.head.ensures ∙ ap headed c.in-Accepted.is in
-    let marked = c.loop-marked.invariant.0 ∙ marks_done _ _ _ (omega arith) in
-    let valued = sym c.values.ensures ∙ ap judged c.in-Accepted-values.is in
+    let headed-as = sym c.head.ensures ∙ ap headed c.in-Ok.is in
+    let marked = c.loop.invariant.0 ∙ marks_done _ _ _ (omega arith) in
+    let valued = sym c.values.ensures ∙ ap judged c.in-Ok-values.is in
     let accepted = field-taken _ _ _ headed-as _ marked _ valued in
     let ends = taken-end _ _ _ headed-as _ _ valued in
     let inv = c.fields.invariant in
     let g = values_goes _ _ _ _ _ valued in
     let end = g.0 in
     let within = g.1 in
-    let counted = c.loop-marked.invariant.1 in
+    let counted = c.loop.invariant.1 in
     let n = c.args.n in
     let left = c.fields.left in
     let some = c.if-left-eq0.false in
@@ -154,33 +157,33 @@ fields-preserved c =
 pub returns-then-at-s : goal.returns-then-at-s
 returns-then-at-s c =
     let inv = c.fields.invariant in
-    record { answer = (sym (inv.0 ∙ steps_over _ _ _ _ c.if-left-eq0.true c.if-at-s.true), tt); kept = kept_end _ _ _ _ _ _ _ _ _ inv.3 c.if-left-eq0.true }
+    record { answer = rw c.refuse-then-at-s.ensures (sym (inv.0 ∙ steps_over _ _ _ _ c.if-left-eq0.true c.if-at-s.true), tt); kept = kept_end _ _ _ _ _ _ _ _ _ inv.3 c.if-left-eq0.true }
 
 pub returns-else-at-s : goal.returns-else-at-s
 returns-else-at-s c =
     let inv = c.fields.invariant in
     record { answer = (sym (inv.0 ∙ steps_end _ _ _ _ c.if-left-eq0.true (omega arith)), omega arith); kept = kept_end _ _ _ _ _ _ _ _ _ inv.3 c.if-left-eq0.true }
 
-pub returns-in-Refused : goal.returns-in-Refused
-returns-in-Refused c =
-    let stopped = field_head_stop _ _ _ _ (sym c.head.ensures ∙ ap headed c.in-Refused.is) in
+pub returns-in-Err : goal.returns-in-Err
+returns-in-Err c =
+    let stopped = field_head_stop _ _ _ _ (sym c.head.ensures ∙ ap headed c.in-Err.is) in
     let inv = c.fields.invariant in
     record { answer = (sym (inv.0 ∙ steps_stop _ _ _ _ _ _ c.if-left-eq0.false stopped), tt); kept = kept_stop _ _ _ _ _ _ _ _ _ inv.3 _ _ stopped }
 
-pub returns-in-Refused-mark_by : goal.returns-in-Refused-mark_by
-returns-in-Refused-mark_by c =
-    let headed-as = sym c.head.ensures ∙ ap headed c.in-Accepted.is in
+pub returns-in-Err-mark_by : goal.returns-in-Err-mark_by
+returns-in-Err-mark_by c =
+    let headed-as = sym c.head.ensures ∙ ap headed c.in-Ok.is in
     let by_Last = mark_by_last _ _ _ c.lasts-last.ensures in
-    let told = sym by_Last ∙ sym c.mark_by.ensures ∙ ap judged c.in-Refused-mark_by.is in
-    let at_mark = c.loop-marked.invariant.0 ∙ marks_stop _ _ _ _ _ (omega arith) told in
+    let told = sym by_Last ∙ sym c.mark_by.ensures ∙ ap judged c.in-Err-mark_by.is in
+    let at_mark = c.loop.invariant.0 ∙ marks_stop _ _ _ _ _ (omega arith) told in
     let stopped = field-mark-stop _ _ _ headed-as _ _ at_mark in
     let inv = c.fields.invariant in
     record { answer = (sym (inv.0 ∙ steps_stop _ _ _ _ _ _ c.if-left-eq0.false stopped), tt); kept = kept_stop _ _ _ _ _ _ _ _ _ inv.3 _ _ stopped }
 
-pub returns-in-Refused-values : goal.returns-in-Refused-values
-returns-in-Refused-values c =
-    let headed-as = sym c.head.ensures ∙ ap headed c.in-Accepted.is in
-    let marked = c.loop-marked.invariant.0 ∙ marks_done _ _ _ (omega arith) in
-    let stopped = field-values-stop _ _ _ headed-as _ marked _ _ (sym c.values.ensures ∙ ap judged c.in-Refused-values.is) in
+pub returns-in-Err-values : goal.returns-in-Err-values
+returns-in-Err-values c =
+    let headed-as = sym c.head.ensures ∙ ap headed c.in-Ok.is in
+    let marked = c.loop.invariant.0 ∙ marks_done _ _ _ (omega arith) in
+    let stopped = field-values-stop _ _ _ headed-as _ marked _ _ (sym c.values.ensures ∙ ap judged c.in-Err-values.is) in
     let inv = c.fields.invariant in
     record { answer = (sym (inv.0 ∙ steps_stop _ _ _ _ _ _ c.if-left-eq0.false stopped), tt); kept = kept_stop _ _ _ _ _ _ _ _ _ inv.3 _ _ stopped }

@@ -8,11 +8,10 @@ use Rattle.reading_parts.specs.Parts.{steps_from, rest_steps}
 use Rattle.reading_parts.specs.Kept.{before_fault, kept_all, kept_rest}
 use Rattle.reading_parts.proofs.part_from.Given as goal
 
-abbrev pub invariant-loop-marked : goal.invariant-loop-marked
-invariant-loop-marked l = (marks l.s l.h.marked l.h.next ≡ marks l.s l.marked l.p) × (l.from + l.steps + 1 + l.h.marked ≤ l.p + l.marked) × (l.p ≤ length l.s)
-
-abbrev pub decreases-loop-marked : goal.decreases-loop-marked
-decreases-loop-marked l = l.marked
+abbrev pub invariant-loop : goal.invariant-loop
+invariant-loop l = (marks l.s l.h.marked l.h.next ≡ marks l.s (l.h.marked - l.counter) l.p)
+    × (l.from + l.steps + 1 + l.h.marked ≤ l.p + (l.h.marked - l.counter))
+    × (l.p ≤ length l.s)
 
 abbrev pub invariant-fields : goal.invariant-fields
 invariant-fields l = (rest_steps l.s l.from l.n ≡ steps_from l.s l.left l.at l.steps)

@@ -8,7 +8,3 @@ abbrev pub invariant-loop-fields : goal.invariant-loop-fields
 invariant-loop-fields l = (alike l.s l.code l.size l.n l.at ≡ l.fields + alike l.s l.code l.size (l.n - l.fields) l.end)
     × (l.end ≡ l.at + l.fields * (l.size + 1))
     × (l.end ≤ length l.s)
-    × (l.fields ≤ l.n)
-
-abbrev pub decreases-loop-fields : goal.decreases-loop-fields
-decreases-loop-fields l = l.n - l.fields

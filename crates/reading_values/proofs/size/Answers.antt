@@ -1,11 +1,12 @@
 -- The code's width is one of four, and each has its own call.
 use native.Mathlib.Omega.{arith}
-use mathlib.Core.Path.{sym, ◌∙◌}
+use mathlib.Core.Path.{ap, sym, ◌∙◌}
+use Rattle.sim0mq.specs.Views.{judged}
 use Rattle.reading_values.proofs.ValueCases.{width_eight, size_past, size_told, size_of_none}
 use Rattle.reading_values.proofs.size.Goals as goal
 
 pub returns-then-s-first : goal.returns-then-s-first
-returns-then-s-first c = c.refuse.ensures ∙ sym (size_past _ _ _ _ (omega arith))
+returns-then-s-first c = ap judged c.refuse.ensures ∙ sym (size_past _ _ _ _ (omega arith))
 
 pub returns-then-code-gt32 : goal.returns-then-code-gt32
 returns-then-code-gt32 c = sym (size_of_none _ _ _ _ c.if-code-gt32.true (omega arith))

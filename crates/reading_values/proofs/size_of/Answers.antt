@@ -1,10 +1,11 @@
 -- The values are there exactly when they fit into the bytes from the first on.
 use native.Mathlib.Omega.{arith}
 use Prim.Native.Nat.{◌≤◌, ℕ, ◌<◌, ◌^◌}
-use mathlib.Core.Path.{sym, ◌∙◌, ◌≡◌}
+use mathlib.Core.Path.{ap, sym, ◌∙◌, ◌≡◌}
 use mathlib.Core.Bool.{true}
 use lib.Dec.{leb}
 use borrow.Author.Tests.{leb-true}
+use Rattle.sim0mq.specs.Views.{judged}
 use Rattle.reading_values.proofs.ValueCases.{size_fits, size_short}
 use Rattle.reading_values.proofs.size_of.Goals as goal
 
@@ -19,4 +20,4 @@ pub returns-then-fits : goal.returns-then-fits
 returns-then-fits c = sym (size_fits _ _ _ _ (omega arith) (sym c.fits.ensures ∙ c.if-fits.true))
 
 pub returns : goal.returns
-returns c = c.refuse.ensures ∙ sym (size_short _ _ _ _ (omega arith) (sym c.fits.ensures ∙ c.if-fits.false))
+returns c = ap judged c.refuse.ensures ∙ sym (size_short _ _ _ _ (omega arith) (sym c.fits.ensures ∙ c.if-fits.false))

@@ -1,10 +1,6 @@
 -- At each turn the copies of the messages so far stand at the front.
-use Prim.Native.Nat.{◌-◌}
 use Rattle.recordings_blanking.proofs.BlankCases.{Copying}
 use Rattle.recordings_blanking.proofs.blank_each.Given as goal
 
 abbrev pub invariant-loop-k : goal.invariant-loop-k
-invariant-loop-k l = Copying l.s l.t l.initial.out l.out l.at l.k
-
-abbrev pub decreases-loop-k : goal.decreases-loop-k
-decreases-loop-k l = l.t.entries - l.k
+invariant-loop-k l = Copying l.s l.t l.initial.out l.out l.k

@@ -1,7 +1,7 @@
 -- The whole file is its own last bytes, and of it nothing is wanted.
 use mathlib.Core.Path.{ap, sym, ◌∙◌}
 use Rattle.recordings_index.specs.Index.{reached_as}
-use Rattle.recordings_index.proofs.TailLaws.{whole_comes, whole_wants}
+use Rattle.recordings_index.proofs.TailLaws.{whole_comes}
 use Rattle.recordings_index.proofs.index.Goals as goal
 
 pub returns-in-Found : goal.returns-in-Found
@@ -11,9 +11,3 @@ returns-in-Found c =
 pub returns-in-Wrong : goal.returns-in-Wrong
 returns-in-Wrong c =
     whole_comes _ _ (ap reached_as (sym c.in-Wrong.is) ∙ c.index_tail.ensures)
-
-pub returns-in-Wanted : goal.returns-in-Wanted
-returns-in-Wanted c =
-    absurd
-    (whole_wants c.args.s.now
-    (ap reached_as (sym c.in-Wanted.is) ∙ c.index_tail.ensures))

@@ -4,12 +4,12 @@ use Rattle.senders.specs.Senders.{after_taking}
 use Rattle.senders.proofs.CallCases.{take_stops, take_goes}
 use Rattle.senders.proofs.take.Goals as goal
 
-pub returns-in-Refused : goal.returns-in-Refused
-returns-in-Refused c =
+pub returns-in-Err : goal.returns-in-Err
+returns-in-Err c =
     c.refused.ensures
-    ∙ ap (after_taking c.args.book) (take_stops _ _ _ c.judge-a.ensures _ c.in-Refused.is)
+    ∙ ap (after_taking c.args.book) (take_stops _ _ _ c.judge-a.ensures _ c.in-Err.is)
 
-pub returns-in-Accepted : goal.returns-in-Accepted
-returns-in-Accepted c =
+pub returns-in-Ok : goal.returns-in-Ok
+returns-in-Ok c =
     c.take_framed.ensures
-    ∙ ap (after_taking c.args.book) (take_goes _ _ _ c.judge-a.ensures _ c.in-Accepted.is)
+    ∙ ap (after_taking c.args.book) (take_goes _ _ _ c.judge-a.ensures _ c.in-Ok.is)

@@ -3,6 +3,7 @@ use Prim.Native.Nat.{ℕ, ◌-◌, ◌<◌}
 use native.Mathlib.Omega.{arith}
 use mathlib.Core.Path.{sym, ap, ◌∙◌, subst}
 use Rattle.sim0mq.specs.Views.{judged}
+use Rattle.sim0mq.proofs.Passing.{handed_on}
 use Rattle.sim0mq_marks.proofs.MarkCases.{per_known, mark_plain, mark_between, mark_above, mark_money, mark_per_fine, mark_per_stop}
 use Rattle.sim0mq_marks.proofs.scant.Goals as goal
 
@@ -12,7 +13,7 @@ returns-then-u-le28 c = c.display.ensures ∙ sym (mark_plain _ _ _ _ (omega ari
 pub returns-then-u-le99 : goal.returns-then-u-le99
 returns-then-u-le99 c =
     let unit = c.wide-u in
-    c.refuse.ensures ∙ sym (mark_between _ _ _ unit.result (omega arith) unit.ensures.0 (omega arith) (omega arith))
+    ap judged c.refuse.ensures ∙ sym (mark_between _ _ _ unit.result (omega arith) unit.ensures.0 (omega arith) (omega arith))
 
 pub returns-then-u-eq100 : goal.returns-then-u-eq100
 returns-then-u-eq100 c =
@@ -22,23 +23,22 @@ returns-then-u-eq100 c =
 pub returns-then-u-gt106 : goal.returns-then-u-gt106
 returns-then-u-gt106 c =
     let unit = c.wide-u in
-    c.refuse-then-u-gt106.ensures ∙ sym (mark_above _ _ _ unit.result (omega arith) unit.ensures.0 (omega arith))
+    ap judged c.refuse-then-u-gt106.ensures ∙ sym (mark_above _ _ _ unit.result (omega arith) unit.ensures.0 (omega arith))
 
-pub display-requires-in-Accepted : goal.display-requires-in-Accepted
-display-requires-in-Accepted c =
+pub display-requires-2 : goal.display-requires-2
+display-requires-2 c =
     let unit = c.wide-u.result in
     subst (λ (t : ℕ). t < 29) (sym c.per.ensures) (per_known (unit - 101))
 
-pub returns-in-Accepted : goal.returns-in-Accepted
-returns-in-Accepted c =
+pub returns-in_err-p : goal.returns-in_err-p
+returns-in_err-p c =
+    let unit = c.wide-u in
+    handed_on _ _ _ c.from_residual.ensures.1
+    ∙ sym (mark_per_stop _ _ _ unit.result (omega arith) unit.ensures.0 _ _ (omega arith) (omega arith) (sym c.in_err-p.ensures))
+
+pub returns : goal.returns
+returns c =
     let unit = c.wide-u in
     let per = c.per.ensures in
-    let taken = sym c.currency-2.ensures ∙ ap judged c.in-Accepted.is in
-    c.display-in-Accepted.ensures
-    ∙ sym (mark_per_fine _ _ _ unit.result (omega arith) unit.ensures.0 _ _ (omega arith) (omega arith) per taken)
-
-pub returns-in-Refused : goal.returns-in-Refused
-returns-in-Refused c =
-    let unit = c.wide-u in
-    let stopped = sym c.currency-2.ensures ∙ ap judged c.in-Refused.is in
-    sym (mark_per_stop _ _ _ unit.result (omega arith) unit.ensures.0 _ _ (omega arith) (omega arith) stopped)
+    c.display-2.ensures
+    ∙ sym (mark_per_fine _ _ _ unit.result (omega arith) unit.ensures.0 _ _ (omega arith) (omega arith) per (sym c.in_ok-p.ensures))

@@ -30,29 +30,29 @@ returns-then-n-gt8 c = (number_long _ _ _ (omega arith) (omega arith), none _)
 
 pub loop-i-init : goal.loop-i-init
 unfolding big
-loop-i-init c = (omega arith, (refl, omega arith), omega arith, omega arith)
+loop-i-init c = (refl, omega arith)
 
 pub overflow_mul-x : goal.overflow_mul-x
 overflow_mul-x c =
-    let h : c.loop-i.x < 256 ^ 7 = small c.loop-i.i _ (omega arith) c.loop-i.invariant.1.1 in omega arith
+    let h : c.loop-i.x < 256 ^ 7 = small c.loop-i.i _ (omega arith) c.loop-i.invariant.1 in omega arith
 
 pub overflow_add-x : goal.overflow_add-x
 overflow_add-x c =
     let h : c.loop-i.x < 256 ^ 7
-    = small c.loop-i.i _ (omega arith) c.loop-i.invariant.1.1 in
+    = small c.loop-i.i _ (omega arith) c.loop-i.invariant.1 in
     omega arith
 
 pub loop-i-preserved : goal.loop-i-preserved
 loop-i-preserved c =
     let i = c.loop-i.i in
     let inv = c.loop-i.invariant in
-    let next = more c.loop-i.x i c.wide.result inv.1.1 c.wide.ensures.1 in
-    (omega arith, (ap₂ (λ (x b : ℕ). x * 256 + b) inv.1.0 c.wide.ensures.0 ∙ number_more _ _ i, next), omega arith, omega arith)
+    let next = more c.loop-i.x i c.wide.result inv.1 c.wide.ensures.1 in
+    (ap₂ (λ (x b : ℕ). x * 256 + b) inv.0 c.wide.ensures.0 ∙ number_more _ _ i, next)
 
 pub returns : goal.returns
 returns c =
     let all : c.loop-i.i ≡ c.args.n = omega arith in
     let inv = c.loop-i.invariant in (
-      inv.1.0 ∙ ap (λ (k : ℕ). big c.args.s.now c.args.at k) all ∙ sym (number_there _ _ _ (omega arith) (omega arith)),
-      subst (λ (k : ℕ). c.loop-i.x < 256 ^ k) all inv.1.1,
+      inv.0 ∙ ap (λ (k : ℕ). big c.args.s.now c.args.at k) all ∙ sym (number_there _ _ _ (omega arith) (omega arith)),
+      subst (λ (k : ℕ). c.loop-i.x < 256 ^ k) all inv.1,
     )

@@ -1,4 +1,6 @@
 -- Each case is told with its own unit type.
+use mathlib.Core.Path.{ap}
+use Rattle.asking_scalars.specs.Scalars.{valued}
 use Rattle.sums.specs.Views.{shown_as, resulting}
 use Rattle.sums.proofs.result.Goals as goal
 
@@ -36,4 +38,4 @@ returns-in-AbsoluteTemperature c = rw c.in-AbsoluteTemperature.is c.told-in-Abso
 
 pub returns-in-Other : goal.returns-in-Other
 unfolding resulting
-returns-in-Other c = rw c.in-Other.is c.refuse.ensures
+returns-in-Other c = rw c.in-Other.is (ap valued c.refuse.ensures)

@@ -9,20 +9,25 @@ pub bounds-out-2 : goal.bounds-out-2
 bounds-out-2 c = simp length-set (omega (arith, c.requires.1))
 
 pub returns-then-mark-le28 : goal.returns-then-mark-le28
-returns-then-mark-le28 c = record { after = (plain-written _ _ c.requires.1 c.if-mark-le28.true).0; written = (plain-written _ _ c.requires.1 c.if-mark-le28.true).1 }
+returns-then-mark-le28 c =
+    let put = plain-written _ _ c.requires.1 c.if-mark-le28.true in
+    record { after = put.0; written = put.1 }
 
 pub shape_of-out-then-mark-eq100 : goal.shape_of-out-then-mark-eq100
-shape_of-out-then-mark-eq100 c =
-    money-length c.args.mark c.args.out.now c.requires.1 _ c.put_big.ensures
+shape_of-out-then-mark-eq100 c = money-length c.args.mark c.args.out.now c.requires.1 _ (rw c.from.ensures at c.put_big.ensures)
 
 pub returns-then-mark-eq100 : goal.returns-then-mark-eq100
-returns-then-mark-eq100 c = record { after = (money-written _ _ c.requires.1 _ c.put_big.ensures c.if-mark-eq100.true).0; written = (money-written _ _ c.requires.1 _ c.put_big.ensures c.if-mark-eq100.true).1 }
+returns-then-mark-eq100 c =
+    let put = money-written _ _ c.requires.1 _ (rw c.from.ensures at c.put_big.ensures) c.if-mark-eq100.true in
+    record { after = put.0; written = put.1 }
 
 pub shape_of-out : goal.shape_of-out
 shape_of-out c =
     length-set c.put_big.new.out 4 c.args.mark.display
-    ∙ money-length c.args.mark c.args.out.now c.requires.1 _ c.put_big.ensures
+    ∙ money-length c.args.mark c.args.out.now c.requires.1 _ (rw c.from.ensures at c.put_big.ensures)
 
 pub returns : goal.returns
-returns c = let is = taken_money c.args.mark c.requires.0 c.if-mark-le28.false in
-    record { after = (per-written _ _ c.requires.1 _ c.put_big.ensures (omega (arith, is.0)) is.1).0; written = (per-written _ _ c.requires.1 _ c.put_big.ensures (omega (arith, is.0)) is.1).1 }
+returns c =
+    let is = taken_money c.args.mark c.requires.0 c.if-mark-le28.false in
+    let put = per-written _ _ c.requires.1 _ (rw c.from.ensures at c.put_big.ensures) (omega (arith, is.0)) is.1 in
+    record { after = put.0; written = put.1 }

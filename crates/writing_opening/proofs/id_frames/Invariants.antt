@@ -1,9 +1,7 @@
+use Prim.Native.Nat.{◌-◌}
 use mathlib.Core.Path.{◌≡◌}
 use Rattle.writing_opening.specs.Opening.{ids_from}
 use Rattle.writing_opening.proofs.id_frames.Given as goal
 
-abbrev pub invariant-loop-left : goal.invariant-loop-left
-invariant-loop-left l = ids_from l.s l.left l.at ≡ ids_from l.s 4 0
-
-abbrev pub decreases-loop-left : goal.decreases-loop-left
-decreases-loop-left l = l.left
+abbrev pub invariant-loop : goal.invariant-loop
+invariant-loop l = ids_from l.s (4 - l.counter) l.at ≡ ids_from l.s 4 0

@@ -1,31 +1,12 @@
 -- Where there is room, the code is stored, and the number after it.
 use Prim.Native.Nat.{◌+◌, ◌≤◌}
 use native.Mathlib.Omega.{arith}
-use mathlib.Core.Path.{ap, sym, ◌∙◌}
+use mathlib.Core.Path.{sym, ◌∙◌}
 use lib.ListN.{length, set, length-set}
-use Rattle.sim0mq_numbers.specs.Bytes.{big_bytes}
 use Rattle.writing_puts.specs.Placing.{number_text}
-use Rattle.sim0mq.proofs.PlaceLaws.{placed_length}
-use Rattle.sim0mq_buffers.proofs.PlaceLaws.{put_fits, put_over}
+use Rattle.sim0mq_buffers.proofs.PlaceLaws.{put_fits}
 use Rattle.writing_puts.proofs.PlaceLaws.{placed_coded, big_length, big_fits}
 use Rattle.writing_puts.proofs.put_number.Goals as goal
-
-pub returns-then-out-at : goal.returns-then-out-at
-returns-then-out-at c = put_over _ _ _ (omega arith)
-
-pub returns-then-out-at-2 : goal.returns-then-out-at-2
-returns-then-out-at-2 c =
-    let a = c.args in
-    let long = big_length a.n a.x in
-    put_over a.out.now a.at (number_text a.code a.n a.x) (omega arith)
-
-pub shape_of-out : goal.shape_of-out
-shape_of-out c =
-    let a = c.args in
-    let same = length-set a.out.now a.at a.code in
-    let long = big_length a.n a.x in
-    let fits = big_fits (set a.out.now a.at a.code) (a.at + 1) a.n a.x (omega arith) in
-    ap length (c.put_big.ensures ∙ fits) ∙ placed_length _ (a.at + 1) (big_bytes a.n a.x) (omega arith) ∙ same
 
 pub returns : goal.returns
 returns c =

@@ -1,9 +1,0 @@
--- The numbers are those of the definition, and `give` stores them.
-use borrow.Author.Rules.{rules}
-use Rattle.boundary_giving.proofs.GivenLaws.{returned_small}
-use Rattle.boundary_recordings.proofs.give_place.Goals as goal
-
-pub overflow_cast-result : goal.overflow_cast-result
-overflow_cast-result c =
-    let small = returned_small _ _ _ _ c.give.ensures.returned c.place_numbers-numbers.ensures.small in
-    search (rules, small)

@@ -1,8 +1,0 @@
--- vectors::all is safe and ends: each line ends past its first byte.
--- Assumes nothing.
-use Prim.Native.Nat.{◌-◌}
-use lib.ListN.{length}
-use Rattle.vectors.proofs.all.Given as goal
-
-abbrev pub decreases-loop-at : goal.decreases-loop-at
-decreases-loop-at g l = length l.text - l.at
