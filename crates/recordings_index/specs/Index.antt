@@ -49,8 +49,8 @@ summed_in (fine (there i)) = fine (there (summary i))
 summed_in (fine (wanted w)) = fine (wanted w)
 summed_in (refused k p) = refused k p
 
--- Where the first entry that this trailer of a file of n bytes states stands in the file's last bytes; and entry k: where
--- it says that a message stands, with 0 for a number that is past the bytes.
+-- Where the first entry that this trailer of a file of n bytes states stands in the file's last bytes; and entry k:
+-- where it says that a message stands, with 0 for a number that is past the bytes.
 abbrev pub first_entry : ℕ → List ℕ → Trailer → ℕ
 first_entry n tail t = length tail - (n - t.place)
 
