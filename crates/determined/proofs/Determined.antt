@@ -11,6 +11,7 @@ use denote.Param.Laws.{Laws, IsCopy}
 use mir.Syntax.{Dict}
 use Rattle.std.specs.Prelude.{Result, Option, Some, None}
 use Rattle.std.specs.declared.clone.Clone as Clone
+use Rattle.std.below.core.specs.contracts.clone.Clone+copy.TheImpl as Copied
 use Rattle.sim0mq.specs.Answer.{Answer, fine, refused}
 use Rattle.sim0mq.specs.Views.{number_of, said_as, judged}
 use Rattle.sim0mq.specs.declared.Refusal.{Refusal}
@@ -162,6 +163,14 @@ use Rattle.boundary_writer_crossing.proofs.count_type.Reads as count_type
 use Rattle.sums_quantities.specs.declared.quantity.Quantity as Number
 use Rattle.sums_quantities.specs.declared.relative.Relative as Relative
 use Rattle.sums_quantities.specs.declared.absolute.Absolute as Absolute
+use Rattle.sums_quantities.specs.contracts.lengths as lengths
+use Rattle.sums_quantities.specs.contracts.durations as durations
+use Rattle.sums_quantities.specs.contracts.angles as angles
+use Rattle.sums_quantities.specs.contracts.temperatures as temperatures
+use Rattle.sums_quantities.proofs.lengths as lengths_laws
+use Rattle.sums_quantities.proofs.durations as durations_laws
+use Rattle.sums_quantities.proofs.angles as angles_laws
+use Rattle.sums_quantities.proofs.temperatures as temperatures_laws
 use Rattle.sums_quantities.proofs.quantity.Quantity.of.Reads as quantity_of_number
 use Rattle.sums_quantities.proofs.quantity.Quantity.shown.Reads as quantity_shown
 use Rattle.sums_quantities.proofs.relative.Relative.plus.Reads as relative_plus
@@ -728,9 +737,9 @@ module _ (Q : RattleType) (laws : Laws Q) (copy : IsCopy Q) (q : Number.Ghosts Q
   quantity_shown_result = equated _ (λ κs a z e p. p)
 
 module _ (R A : RattleType) (r_laws : Laws R) (a_laws : Laws A) (r_copy : IsCopy R) (a_copy : IsCopy A)
+    (relates : Relative.Ghosts R.Denot A.Denot) (related : Dict)
     (r : Number.Ghosts R.Denot) (rd : Dict) (r_clone : Clone.Ghosts R.Denot) (r_cloned : Dict)
     (a : Number.Ghosts A.Denot) (ad : Dict) (a_clone : Clone.Ghosts A.Denot) (a_cloned : Dict)
-    (relates : Relative.Ghosts R.Denot A.Denot) (related : Dict) (absolutes : Absolute.Ghosts A.Denot R.Denot) (absoluted : Dict)
     (r_apart : (x y : R.Denot) → r.number x ≡ r.number y → x ≡ y) (a_apart : (x y : A.Denot) → a.number x ≡ a.number y → x ≡ y) where
   pub relative_plus_result : Determines (relative_plus.Post R A r_laws a_laws r_copy a_copy relates related r rd r_clone r_cloned a ad a_clone a_cloned) (λ κs z e. z)
   relative_plus_result = determined (λ κs. r.number) (λ κs. r_apart) _ (λ κs a z e p. p)
@@ -741,6 +750,12 @@ module _ (R A : RattleType) (r_laws : Laws R) (a_laws : Laws A) (r_copy : IsCopy
   pub relative_less_result : Determines (relative_less.Post R A r_laws a_laws r_copy a_copy relates related r rd r_clone r_cloned a ad a_clone a_cloned) (λ κs z e. z)
   relative_less_result = determined (λ κs. r.number) (λ κs. r_apart) _ (λ κs a z e p. p)
 
+module _ (A R : RattleType) (a_laws : Laws A) (r_laws : Laws R) (a_copy : IsCopy A) (r_copy : IsCopy R)
+    (absolutes : Absolute.Ghosts A.Denot R.Denot) (absoluted : Dict)
+    (a : Number.Ghosts A.Denot) (ad : Dict) (a_clone : Clone.Ghosts A.Denot) (a_cloned : Dict)
+    (relates : Relative.Ghosts R.Denot A.Denot) (related : Dict)
+    (r : Number.Ghosts R.Denot) (rd : Dict) (r_clone : Clone.Ghosts R.Denot) (r_cloned : Dict)
+    (a_apart : (x y : A.Denot) → a.number x ≡ a.number y → x ≡ y) (r_apart : (x y : R.Denot) → r.number x ≡ r.number y → x ≡ y) where
   pub absolute_plus_result : Determines (absolute_plus.Post A R a_laws r_laws a_copy r_copy absolutes absoluted a ad a_clone a_cloned relates related r rd r_clone r_cloned) (λ κs z e. z)
   absolute_plus_result = determined (λ κs. a.number) (λ κs. a_apart) _ (λ κs a z e p. p)
 
@@ -749,6 +764,273 @@ module _ (R A : RattleType) (r_laws : Laws R) (a_laws : Laws A) (r_copy : IsCopy
 
   pub absolute_less_absolute_result : Determines (absolute_less_absolute.Post A R a_laws r_laws a_copy r_copy absolutes absoluted a ad a_clone a_cloned relates related r rd r_clone r_cloned) (λ κs z e. z)
   absolute_less_absolute_result = determined (λ κs. r.number) (λ κs. r_apart) _ (λ κs a z e p. p)
+
+-- A type of quantities: that it can be copied; its impl of Quantity, which proves that its number tells it; and its impl
+-- of Relative or Absolute.
+pub record Kind : Type 2 where
+  pub row : RattleType
+  pub laws : Laws row
+  pub copy : IsCopy row
+  pub members : Number.Ghosts row.Denot
+  pub dict : Dict
+  pub told : (x y : row.Denot) → members.number x ≡ members.number y → x ≡ y
+  pub pair : Dict
+
+-- What is said of every type of quantities, at this one.
+abbrev pub at_quantity {ℓ} : {F : (Q : RattleType) → Laws Q → IsCopy Q → Number.Ghosts Q.Denot → Dict → Clone.Ghosts Q.Denot → Dict → Type ℓ}
+    (q : Kind)
+    → ((Q : RattleType) (laws : Laws Q) (copy : IsCopy Q) (q : Number.Ghosts Q.Denot) (qd : Dict)
+    (clone : Clone.Ghosts Q.Denot) (cloned : Dict) → F Q laws copy q qd clone cloned)
+    → F q.row q.laws q.copy q.members q.dict (Copied.ghosts q.row) (Copied.dict q.row)
+at_quantity q f = f q.row q.laws q.copy q.members q.dict (Copied.ghosts q.row) (Copied.dict q.row)
+
+-- What is said of every relative type and its absolute one, at these two.
+abbrev pub at_relative {ℓ} : {F : (R A : RattleType) → Laws R → Laws A → IsCopy R → IsCopy A
+    → Relative.Ghosts R.Denot A.Denot → Dict
+    → Number.Ghosts R.Denot → Dict → Clone.Ghosts R.Denot → Dict
+    → Number.Ghosts A.Denot → Dict → Clone.Ghosts A.Denot → Dict → Type ℓ}
+    (r a : Kind)
+    → ((R A : RattleType) (r_laws : Laws R) (a_laws : Laws A) (r_copy : IsCopy R) (a_copy : IsCopy A)
+    (relates : Relative.Ghosts R.Denot A.Denot) (related : Dict)
+    (r : Number.Ghosts R.Denot) (rd : Dict) (r_clone : Clone.Ghosts R.Denot) (r_cloned : Dict)
+    (a : Number.Ghosts A.Denot) (ad : Dict) (a_clone : Clone.Ghosts A.Denot) (a_cloned : Dict)
+    → F R A r_laws a_laws r_copy a_copy relates related r rd r_clone r_cloned a ad a_clone a_cloned)
+    → F r.row a.row r.laws a.laws r.copy a.copy (record {}) r.pair
+    r.members r.dict (Copied.ghosts r.row) (Copied.dict r.row)
+    a.members a.dict (Copied.ghosts a.row) (Copied.dict a.row)
+at_relative r a f = f r.row a.row r.laws a.laws r.copy a.copy (record {}) r.pair
+    r.members r.dict (Copied.ghosts r.row) (Copied.dict r.row)
+    a.members a.dict (Copied.ghosts a.row) (Copied.dict a.row)
+
+-- What is said of every absolute type and its relative one, at these two.
+abbrev pub at_absolute {ℓ} : {F : (A R : RattleType) → Laws A → Laws R → IsCopy A → IsCopy R
+    → Absolute.Ghosts A.Denot R.Denot → Dict
+    → Number.Ghosts A.Denot → Dict → Clone.Ghosts A.Denot → Dict
+    → Relative.Ghosts R.Denot A.Denot → Dict
+    → Number.Ghosts R.Denot → Dict → Clone.Ghosts R.Denot → Dict → Type ℓ}
+    (a r : Kind)
+    → ((A R : RattleType) (a_laws : Laws A) (r_laws : Laws R) (a_copy : IsCopy A) (r_copy : IsCopy R)
+    (absolutes : Absolute.Ghosts A.Denot R.Denot) (absoluted : Dict)
+    (a : Number.Ghosts A.Denot) (ad : Dict) (a_clone : Clone.Ghosts A.Denot) (a_cloned : Dict)
+    (relates : Relative.Ghosts R.Denot A.Denot) (related : Dict)
+    (r : Number.Ghosts R.Denot) (rd : Dict) (r_clone : Clone.Ghosts R.Denot) (r_cloned : Dict)
+    → F A R a_laws r_laws a_copy r_copy absolutes absoluted a ad a_clone a_cloned relates related r rd r_clone r_cloned)
+    → F a.row r.row a.laws r.laws a.copy r.copy (record {}) a.pair
+    a.members a.dict (Copied.ghosts a.row) (Copied.dict a.row) (record {}) r.pair
+    r.members r.dict (Copied.ghosts r.row) (Copied.dict r.row)
+at_absolute a r f = f a.row r.row a.laws r.laws a.copy r.copy (record {}) a.pair
+    a.members a.dict (Copied.ghosts a.row) (Copied.dict a.row) (record {}) r.pair
+    r.members r.dict (Copied.ghosts r.row) (Copied.dict r.row)
+
+-- The eight types.
+abbrev pub length : Kind
+length = record {
+  row = lengths.Length.the_row;
+  laws = lengths_laws.Length.TheLaws.the_row_laws;
+  copy = lengths_laws.Length.TheLaws.the_row_copy;
+  members = lengths.LengthQuantity.TheImpl.ghosts;
+  dict = lengths.LengthQuantity.TheImpl.dict;
+  told = lengths.LengthQuantity.TheImpl.Laws.told_by_number-law;
+  pair = lengths.LengthRelative.TheImpl.dict;
+}
+
+abbrev pub position : Kind
+position = record {
+  row = lengths.Position.the_row;
+  laws = lengths_laws.Position.TheLaws.the_row_laws;
+  copy = lengths_laws.Position.TheLaws.the_row_copy;
+  members = lengths.PositionQuantity.TheImpl.ghosts;
+  dict = lengths.PositionQuantity.TheImpl.dict;
+  told = lengths.PositionQuantity.TheImpl.Laws.told_by_number-law;
+  pair = lengths.PositionAbsolute.TheImpl.dict;
+}
+
+abbrev pub duration : Kind
+duration = record {
+  row = durations.Duration.the_row;
+  laws = durations_laws.Duration.TheLaws.the_row_laws;
+  copy = durations_laws.Duration.TheLaws.the_row_copy;
+  members = durations.DurationQuantity.TheImpl.ghosts;
+  dict = durations.DurationQuantity.TheImpl.dict;
+  told = durations.DurationQuantity.TheImpl.Laws.told_by_number-law;
+  pair = durations.DurationRelative.TheImpl.dict;
+}
+
+abbrev pub time : Kind
+time = record {
+  row = durations.Time.the_row;
+  laws = durations_laws.Time.TheLaws.the_row_laws;
+  copy = durations_laws.Time.TheLaws.the_row_copy;
+  members = durations.TimeQuantity.TheImpl.ghosts;
+  dict = durations.TimeQuantity.TheImpl.dict;
+  told = durations.TimeQuantity.TheImpl.Laws.told_by_number-law;
+  pair = durations.TimeAbsolute.TheImpl.dict;
+}
+
+abbrev pub angle : Kind
+angle = record {
+  row = angles.Angle.the_row;
+  laws = angles_laws.Angle.TheLaws.the_row_laws;
+  copy = angles_laws.Angle.TheLaws.the_row_copy;
+  members = angles.AngleQuantity.TheImpl.ghosts;
+  dict = angles.AngleQuantity.TheImpl.dict;
+  told = angles.AngleQuantity.TheImpl.Laws.told_by_number-law;
+  pair = angles.AngleRelative.TheImpl.dict;
+}
+
+abbrev pub direction : Kind
+direction = record {
+  row = angles.Direction.the_row;
+  laws = angles_laws.Direction.TheLaws.the_row_laws;
+  copy = angles_laws.Direction.TheLaws.the_row_copy;
+  members = angles.DirectionQuantity.TheImpl.ghosts;
+  dict = angles.DirectionQuantity.TheImpl.dict;
+  told = angles.DirectionQuantity.TheImpl.Laws.told_by_number-law;
+  pair = angles.DirectionAbsolute.TheImpl.dict;
+}
+
+abbrev pub temperature : Kind
+temperature = record {
+  row = temperatures.Temperature.the_row;
+  laws = temperatures_laws.Temperature.TheLaws.the_row_laws;
+  copy = temperatures_laws.Temperature.TheLaws.the_row_copy;
+  members = temperatures.TemperatureQuantity.TheImpl.ghosts;
+  dict = temperatures.TemperatureQuantity.TheImpl.dict;
+  told = temperatures.TemperatureQuantity.TheImpl.Laws.told_by_number-law;
+  pair = temperatures.TemperatureRelative.TheImpl.dict;
+}
+
+abbrev pub absolute_temperature : Kind
+absolute_temperature = record {
+  row = temperatures.AbsoluteTemperature.the_row;
+  laws = temperatures_laws.AbsoluteTemperature.TheLaws.the_row_laws;
+  copy = temperatures_laws.AbsoluteTemperature.TheLaws.the_row_copy;
+  members = temperatures.AbsoluteTemperatureQuantity.TheImpl.ghosts;
+  dict = temperatures.AbsoluteTemperatureQuantity.TheImpl.dict;
+  told = temperatures.AbsoluteTemperatureQuantity.TheImpl.Laws.told_by_number-law;
+  pair = temperatures.AbsoluteTemperatureAbsolute.TheImpl.dict;
+}
+
+-- The same at each type: its impl proves the law.
+pub length_of_number_result : Determines (at_quantity length quantity_of_number.Post) (λ κs z e. z)
+length_of_number_result = at_quantity length quantity_of_number_result length.told
+
+pub length_shown_result : Determines (at_quantity length quantity_shown.Post) (λ κs z e. z)
+length_shown_result = at_quantity length quantity_shown_result length.told
+
+pub position_of_number_result : Determines (at_quantity position quantity_of_number.Post) (λ κs z e. z)
+position_of_number_result = at_quantity position quantity_of_number_result position.told
+
+pub position_shown_result : Determines (at_quantity position quantity_shown.Post) (λ κs z e. z)
+position_shown_result = at_quantity position quantity_shown_result position.told
+
+pub length_plus_result : Determines (at_relative length position relative_plus.Post) (λ κs z e. z)
+length_plus_result = at_relative length position relative_plus_result length.told position.told
+
+pub length_plus_position_result : Determines (at_relative length position relative_plus_absolute.Post) (λ κs z e. z)
+length_plus_position_result = at_relative length position relative_plus_absolute_result length.told position.told
+
+pub length_less_result : Determines (at_relative length position relative_less.Post) (λ κs z e. z)
+length_less_result = at_relative length position relative_less_result length.told position.told
+
+pub position_plus_result : Determines (at_absolute position length absolute_plus.Post) (λ κs z e. z)
+position_plus_result = at_absolute position length absolute_plus_result position.told length.told
+
+pub position_less_result : Determines (at_absolute position length absolute_less.Post) (λ κs z e. z)
+position_less_result = at_absolute position length absolute_less_result position.told length.told
+
+pub position_less_position_result : Determines (at_absolute position length absolute_less_absolute.Post) (λ κs z e. z)
+position_less_position_result = at_absolute position length absolute_less_absolute_result position.told length.told
+
+pub duration_of_number_result : Determines (at_quantity duration quantity_of_number.Post) (λ κs z e. z)
+duration_of_number_result = at_quantity duration quantity_of_number_result duration.told
+
+pub duration_shown_result : Determines (at_quantity duration quantity_shown.Post) (λ κs z e. z)
+duration_shown_result = at_quantity duration quantity_shown_result duration.told
+
+pub time_of_number_result : Determines (at_quantity time quantity_of_number.Post) (λ κs z e. z)
+time_of_number_result = at_quantity time quantity_of_number_result time.told
+
+pub time_shown_result : Determines (at_quantity time quantity_shown.Post) (λ κs z e. z)
+time_shown_result = at_quantity time quantity_shown_result time.told
+
+pub duration_plus_result : Determines (at_relative duration time relative_plus.Post) (λ κs z e. z)
+duration_plus_result = at_relative duration time relative_plus_result duration.told time.told
+
+pub duration_plus_time_result : Determines (at_relative duration time relative_plus_absolute.Post) (λ κs z e. z)
+duration_plus_time_result = at_relative duration time relative_plus_absolute_result duration.told time.told
+
+pub duration_less_result : Determines (at_relative duration time relative_less.Post) (λ κs z e. z)
+duration_less_result = at_relative duration time relative_less_result duration.told time.told
+
+pub time_plus_result : Determines (at_absolute time duration absolute_plus.Post) (λ κs z e. z)
+time_plus_result = at_absolute time duration absolute_plus_result time.told duration.told
+
+pub time_less_result : Determines (at_absolute time duration absolute_less.Post) (λ κs z e. z)
+time_less_result = at_absolute time duration absolute_less_result time.told duration.told
+
+pub time_less_time_result : Determines (at_absolute time duration absolute_less_absolute.Post) (λ κs z e. z)
+time_less_time_result = at_absolute time duration absolute_less_absolute_result time.told duration.told
+
+pub angle_of_number_result : Determines (at_quantity angle quantity_of_number.Post) (λ κs z e. z)
+angle_of_number_result = at_quantity angle quantity_of_number_result angle.told
+
+pub angle_shown_result : Determines (at_quantity angle quantity_shown.Post) (λ κs z e. z)
+angle_shown_result = at_quantity angle quantity_shown_result angle.told
+
+pub direction_of_number_result : Determines (at_quantity direction quantity_of_number.Post) (λ κs z e. z)
+direction_of_number_result = at_quantity direction quantity_of_number_result direction.told
+
+pub direction_shown_result : Determines (at_quantity direction quantity_shown.Post) (λ κs z e. z)
+direction_shown_result = at_quantity direction quantity_shown_result direction.told
+
+pub angle_plus_result : Determines (at_relative angle direction relative_plus.Post) (λ κs z e. z)
+angle_plus_result = at_relative angle direction relative_plus_result angle.told direction.told
+
+pub angle_plus_direction_result : Determines (at_relative angle direction relative_plus_absolute.Post) (λ κs z e. z)
+angle_plus_direction_result = at_relative angle direction relative_plus_absolute_result angle.told direction.told
+
+pub angle_less_result : Determines (at_relative angle direction relative_less.Post) (λ κs z e. z)
+angle_less_result = at_relative angle direction relative_less_result angle.told direction.told
+
+pub direction_plus_result : Determines (at_absolute direction angle absolute_plus.Post) (λ κs z e. z)
+direction_plus_result = at_absolute direction angle absolute_plus_result direction.told angle.told
+
+pub direction_less_result : Determines (at_absolute direction angle absolute_less.Post) (λ κs z e. z)
+direction_less_result = at_absolute direction angle absolute_less_result direction.told angle.told
+
+pub direction_less_direction_result : Determines (at_absolute direction angle absolute_less_absolute.Post) (λ κs z e. z)
+direction_less_direction_result = at_absolute direction angle absolute_less_absolute_result direction.told angle.told
+
+pub temperature_of_number_result : Determines (at_quantity temperature quantity_of_number.Post) (λ κs z e. z)
+temperature_of_number_result = at_quantity temperature quantity_of_number_result temperature.told
+
+pub temperature_shown_result : Determines (at_quantity temperature quantity_shown.Post) (λ κs z e. z)
+temperature_shown_result = at_quantity temperature quantity_shown_result temperature.told
+
+pub absolute_temperature_of_number_result : Determines (at_quantity absolute_temperature quantity_of_number.Post) (λ κs z e. z)
+absolute_temperature_of_number_result = at_quantity absolute_temperature quantity_of_number_result absolute_temperature.told
+
+pub absolute_temperature_shown_result : Determines (at_quantity absolute_temperature quantity_shown.Post) (λ κs z e. z)
+absolute_temperature_shown_result = at_quantity absolute_temperature quantity_shown_result absolute_temperature.told
+
+pub temperature_plus_result : Determines (at_relative temperature absolute_temperature relative_plus.Post) (λ κs z e. z)
+temperature_plus_result = at_relative temperature absolute_temperature relative_plus_result temperature.told absolute_temperature.told
+
+pub temperature_plus_absolute_temperature_result : Determines (at_relative temperature absolute_temperature relative_plus_absolute.Post) (λ κs z e. z)
+temperature_plus_absolute_temperature_result = at_relative temperature absolute_temperature relative_plus_absolute_result temperature.told absolute_temperature.told
+
+pub temperature_less_result : Determines (at_relative temperature absolute_temperature relative_less.Post) (λ κs z e. z)
+temperature_less_result = at_relative temperature absolute_temperature relative_less_result temperature.told absolute_temperature.told
+
+pub absolute_temperature_plus_result : Determines (at_absolute absolute_temperature temperature absolute_plus.Post) (λ κs z e. z)
+absolute_temperature_plus_result = at_absolute absolute_temperature temperature absolute_plus_result absolute_temperature.told temperature.told
+
+pub absolute_temperature_less_result : Determines (at_absolute absolute_temperature temperature absolute_less.Post) (λ κs z e. z)
+absolute_temperature_less_result = at_absolute absolute_temperature temperature absolute_less_result absolute_temperature.told temperature.told
+
+pub absolute_temperature_less_absolute_temperature_result : Determines (at_absolute absolute_temperature temperature absolute_less_absolute.Post) (λ κs z e. z)
+absolute_temperature_less_absolute_temperature_result = at_absolute absolute_temperature temperature absolute_less_absolute_result absolute_temperature.told temperature.told
 
 pub quantity_of_result : Determines quantity_of.Post (λ κs z e. z)
 quantity_of_result = determined (λ κs. seen) (λ κs. seen_apart) _ (λ κs a z e p. p)
