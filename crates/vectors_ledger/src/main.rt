@@ -200,10 +200,9 @@ fn fresh() -> Both {
     Both { ledger, book }
 }
 
-// Ledger and book after a line: one that is empty or begins with # says nothing.
+// Ledger and book after a line that says something.
 fn turn(rt: &impl Print, line: &[u8], both: Both) -> io::Result<Both> {
     match line {
-        [] | [b'#', ..] => Ok(both),
         [b'=', b' ', text @ ..] => {
             rt.write_all(text)?;
             println!(rt)?;
@@ -218,11 +217,18 @@ fn turn(rt: &impl Print, line: &[u8], both: Both) -> io::Result<Both> {
     }
 }
 
+// Whether a line says nothing: it is empty or begins with #.
+fn comment(line: &[u8]) -> bool {
+    matches!(line, [] | [b'#', ..])
+}
+
 // Runs every line of `text`, from the empty ledger and the empty book on.
 fn all(rt: &impl Print, text: &[u8]) -> io::Result<()> {
     let mut both = fresh();
     for line in text.split(|b| *b == b'\n') {
-        both = turn(rt, line, both)?;
+        if !comment(line) {
+            both = turn(rt, line, both)?;
+        }
     }
     Ok(())
 }

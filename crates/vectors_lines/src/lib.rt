@@ -65,8 +65,8 @@ pub fn number(line: &[u8], from: usize) -> Figure
 {
     let rest = part(line, from, line.len());
     match rest.strip_prefix(b"0x") {
-        Some(after) => digits(after, from + 2, 16),
-        None => digits(rest, from, 10),
+        Some(after) => digits::<16>(after, from + 2),
+        None => digits::<10>(rest, from),
     }
 }
 
@@ -89,33 +89,33 @@ pub fn spaced(line: &[u8], at: usize) -> Figure
 }
 
 // The number whose digits stand at the front of `rest`, which begins at `from`.
-fn digits(rest: &[u8], from: usize, base: u32) -> Figure
-    requires { (2 ≤ base) × (base ≤ 36) × (from + length rest.now < 2 ^ 64) }
+fn digits<const BASE: u32>(rest: &[u8], from: usize) -> Figure
+    requires { (2 ≤ BASE) × (BASE ≤ 36) × (from + length rest.now < 2 ^ 64) }
     ensures from_le_at { (from ≤ result.at) × (result.at ≤ from + length rest.now) }
     ensures from_lt_at { IfSome result.value (λ n. from < result.at) }
     ensures none { length rest.now ≡ 0 → result.value ≡ None }
 {
-    let n = rest
-        .iter()
-        .position(|b| !char::from(*b).is_digit(base))
-        .unwrap_or(rest.len());
-    if n == 0 {
-        return Figure {
-            value: None,
-            at: from,
-        };
+    let mut value: usize = 0;
+    for (n, b) in rest.iter().enumerate() {
+        match char::from(*b).to_digit(BASE) {
+            Some(d) => value = value
+                .saturating_mul(BASE as usize)
+                .saturating_add(d as usize),
+            None => return ended(value, n, from),
+        }
     }
-    Figure {
-        value: written(&rest[..n], base),
-        at: from + n,
-    }
+    ended(value, rest.len(), from)
 }
 
-// The number that these digits write; none where it is the largest or past it.
-fn written(digits: &[u8], base: u32) -> Option<usize>
-    requires { (2 ≤ base) × (base ≤ 36) }
+// The number of the n digits from `from` on; none where there is no digit, or it is the largest or past it.
+fn ended(value: usize, n: usize, from: usize) -> Figure
+    requires { from + n < 2 ^ 64 }
+    ensures at { result.at ≡ from + n }
+    ensures value { IfSome result.value (λ v. 0 < n) }
 {
-    let text = str::from_utf8(digits).ok()?;
-    let n = usize::from_str_radix(text, base).ok()?;
-    if n < usize::MAX { Some(n) } else { None }
+    let value = (0 < n && value < usize::MAX).then_some(value);
+    Figure {
+        value,
+        at: from + n,
+    }
 }

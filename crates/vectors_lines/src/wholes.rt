@@ -1,5 +1,5 @@
 // The signed numbers of a line.
-ghost use Rattle.std.specs.Prelude.{◌≤◌, max, length};
+ghost use Rattle.std.specs.Prelude.{ℕ, suc, ◌≡◌, ◌≤◌, ◌<◌, max, length, pos, negsuc, Some, None};
 
 use crate::number;
 
@@ -36,7 +36,11 @@ fn negative(line: &[u8], from: usize) -> Whole
 }
 
 // -n, in 64 bits; none where it has more.
-fn opposite(n: usize) -> Option<i64> {
+fn opposite(n: usize) -> Option<i64>
+    ensures zero { n ≡ 0 → result ≡ Some (pos 0) }
+    ensures below { (k : ℕ) → n ≡ suc k → k ≤ 9223372036854775807 → result ≡ Some (negsuc k) }
+    ensures none { 9223372036854775808 < n → result ≡ None }
+{
     match n.checked_sub(1) {
         None => Some(0),
         Some(below) => i64::try_from(below).ok().map(|z| !z),

@@ -179,10 +179,9 @@ fn called(rt: &impl Print, line: &[u8], book: Book) -> io::Result<Book> {
     lost(rt, line, book)
 }
 
-// The book after a line: one that is empty or begins with # says nothing.
+// The book after a line that says something.
 fn turn(rt: &impl Print, line: &[u8], book: Book) -> io::Result<Book> {
     match line {
-        [] | [b'#', ..] => Ok(book),
         [b'=', b' ', text @ ..] => {
             rt.write_all(text)?;
             println!(rt)?;
@@ -197,11 +196,18 @@ fn turn(rt: &impl Print, line: &[u8], book: Book) -> io::Result<Book> {
     }
 }
 
+// Whether a line says nothing: it is empty or begins with #.
+fn comment(line: &[u8]) -> bool {
+    matches!(line, [] | [b'#', ..])
+}
+
 // Runs every line of `text`, from the empty book on.
 fn all(rt: &impl Print, text: &[u8]) -> io::Result<()> {
     let mut book = senders::empty();
     for line in text.split(|b| *b == b'\n') {
-        book = turn(rt, line, book)?;
+        if !comment(line) {
+            book = turn(rt, line, book)?;
+        }
     }
     Ok(())
 }
