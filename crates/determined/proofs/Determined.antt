@@ -765,8 +765,8 @@ module _ (A R : RattleType) (a_laws : Laws A) (r_laws : Laws R) (a_copy : IsCopy
   pub absolute_less_absolute_result : Determines (absolute_less_absolute.Post A R a_laws r_laws a_copy r_copy absolutes absoluted a ad a_clone a_cloned relates related r rd r_clone r_cloned) (λ κs z e. z)
   absolute_less_absolute_result = determined (λ κs. r.number) (λ κs. r_apart) _ (λ κs a z e p. p)
 
--- A type of quantities: that it can be copied; its impl of Quantity, which proves that its number tells it; and its impl
--- of Relative or Absolute.
+-- A type of quantities: that it can be copied; its impl of Quantity, which proves that its number tells it; and its
+-- impl of Relative or Absolute.
 pub record Kind : Type 2 where
   pub row : RattleType
   pub laws : Laws row
